@@ -1,0 +1,4 @@
+pub mod Groups
+pub mod Laid
+pub mod Steps
+pub mod Trips

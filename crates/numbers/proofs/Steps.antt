@@ -1,0 +1,106 @@
+-- One step of reading a number. Assumes nothing.
+use mathlib.Core.Path.{_≡_, refl, sym, ap, _∙_}
+use mathlib.Core.List.{List, [], _∷_, _++_, map}
+use Prim.Native.Nat.{ℕ, _+_, _-_, _*_, _%_, _^_, _<_, _≤_}
+use native.Mathlib.Nat.{pow-le-pow-right}
+use native.Mathlib.Omega.{arith}
+use lib.Bits.{bitAnd, bitOr}
+use lib.ListN.{length, take, drop, getD, length-map, length-drop}
+use Rattle.std.specs.shelf.Digits.{number, Under}
+use Rattle.std.specs.shelf.Lists.{between, leading}
+use Rattle.std.proofs.shelf.Bits.{and-mask, or-shifted, shl-whole}
+use Rattle.std.proofs.shelf.Digits.{number-push, number-lt}
+use Rattle.std.proofs.shelf.Edits.{between-more, length-between}
+use Rattle.std.proofs.shelf.Lists.{map-push}
+use Rattle.std.proofs.shelf.Sums.{leading-drop-yes, leading-drop-no, leading-drop-all, leading-le-length}
+use Rattle.std.proofs.shelf.Tests.{lt-ltb, le-ltb, le-leb, lt-leb, eq-eqb, ne-eqb}
+use Rattle.std.specs.declared.result.Result.the-variants.{Ok}
+use Rattle.numbers.specs.declared.refusal.Refusal.the-variants.{Short, Wide}
+use Rattle.numbers.specs.Numbers.{goesOn, valueOf, refuse, readFront, readNumber}
+
+pub value-push : (bs : List ℕ) (b : ℕ) → valueOf (bs ++ (b ∷ [])) ≡ valueOf bs * 128 + b % 128
+value-push bs b = ap (number 128) (map-push (λ x. x % 128) bs b) ∙ number-push 128 (map (λ x. x % 128) bs) (b % 128)
+
+under-low : (bs : List ℕ) → Under 128 (map (λ b. b % 128) bs)
+under-low [] = tt
+under-low (b ∷ bs) = (omega arith, under-low bs)
+
+pub value-lt : (bs : List ℕ) → valueOf bs < 128 ^ length bs
+value-lt bs = rw (length-map bs (λ b. b % 128)) at (number-lt 128 (map (λ b. b % 128) bs) (under-low bs))
+
+-- what the reader computes of a group
+pub shift-in : (h b : ℕ) → h < 2 ^ 25 → b < 128 → bitOr (h * 128 % 2 ^ 32) b ≡ h * 128 + b
+shift-in h b small low = rw (shl-whole h 25 7 32 small (omega arith)) (or-shifted h 7 b low)
+
+pub low-bits : (b : ℕ) → bitAnd b 127 ≡ b % 128
+low-bits b = and-mask b 7
+
+-- the bytes from place up to i go on, and the first of them is not 80 (hex)
+module _ (bytes : List ℕ) (place i : ℕ) (from : place ≤ i) (few : i ≤ place + 4)
+    (lead : leading goesOn (drop place bytes) ≡ i - place + leading goesOn (drop i bytes))
+    (first : getD (drop place bytes) 0 0 ≡ 128 → ⊥) where
+  pub at-end : length bytes ≤ i → readNumber bytes place ≡ refuse Short place
+  unfolding readFront
+  at-end over =
+      let none = leading-drop-all goesOn bytes i over in
+      let most = leading-le-length goesOn (drop place bytes) in
+      let long = length-drop place bytes in
+      rw (ne-eqb (getD (drop place bytes) 0 0) 128 first, lt-leb 5 (leading goesOn (drop place bytes)) (omega arith), eq-eqb (leading goesOn (drop place bytes)) (length (drop place bytes)) (omega arith)) refl
+
+  pub at-fifth : i < length bytes → 128 ≤ getD bytes i 0 → i - place ≡ 4 → readNumber bytes place ≡ refuse Wide place
+  unfolding readFront
+  at-fifth inside high full =
+      let one = leading-drop-yes goesOn bytes i 0 inside (le-leb 128 (getD bytes i 0) high) in
+      rw (ne-eqb (getD (drop place bytes) 0 0) 128 first, le-leb 5 (leading goesOn (drop place bytes)) (omega arith)) refl
+
+  last-lead : i < length bytes → getD bytes i 0 < 128 → leading goesOn (drop place bytes) ≡ i - place
+  last-lead inside low = let none = leading-drop-no goesOn bytes i 0 inside (lt-leb 128 (getD bytes i 0) low) in omega arith
+
+  last-value : i < length bytes → getD bytes i 0 < 128 → valueOf (take (leading goesOn (drop place bytes) + 1) (drop place bytes)) ≡ valueOf (between place i bytes) * 128 + getD bytes i 0
+  last-value inside low =
+      let e : leading goesOn (drop place bytes) + 1 ≡ i + 1 - place = omega (arith, last-lead inside low) in
+      let m : getD bytes i 0 % 128 ≡ getD bytes i 0 = omega arith in
+      rw e (ap valueOf (between-more bytes place i 0 from inside) ∙ value-push (between place i bytes) (getD bytes i 0) ∙ ap (λ x. valueOf (between place i bytes) * 128 + x) m)
+
+  pub at-last : i < length bytes → getD bytes i 0 < 128 → valueOf (between place i bytes) < 2 ^ 25
+      → readNumber bytes place ≡ Ok (record { value = valueOf (between place i bytes) * 128 + getD bytes i 0; next = i + 1 })
+  unfolding readFront
+  at-last inside low small =
+      let l = last-lead inside low in
+      let n : place + (leading goesOn (drop place bytes) + 1) ≡ i + 1 = omega arith in
+      rw (
+        ne-eqb (getD (drop place bytes) 0 0) 128 first,
+        lt-leb 5 (leading goesOn (drop place bytes)) (omega arith),
+        ne-eqb (leading goesOn (drop place bytes)) (length (drop place bytes)) (λ e. omega (arith, length-drop place bytes)),
+        last-value inside low,
+        lt-ltb (valueOf (between place i bytes) * 128 + getD bytes i 0) (2 ^ 32) (omega arith),
+        n,
+      ) refl
+
+  pub at-wide : i < length bytes → getD bytes i 0 < 128 → 2 ^ 25 ≤ valueOf (between place i bytes) → readNumber bytes place ≡ refuse Wide place
+  unfolding readFront
+  at-wide inside low big =
+      let l = last-lead inside low in
+      rw (
+        ne-eqb (getD (drop place bytes) 0 0) 128 first,
+        lt-leb 5 (leading goesOn (drop place bytes)) (omega arith),
+        ne-eqb (leading goesOn (drop place bytes)) (length (drop place bytes)) (λ e. omega (arith, length-drop place bytes)),
+        last-value inside low,
+        le-ltb (valueOf (between place i bytes) * 128 + getD bytes i 0) (2 ^ 32) (omega arith),
+      ) refl
+
+-- before the fifth group the number so far is small, and one group more is what the reader computes
+module _ (bytes : List ℕ) (place i : ℕ) (from : place ≤ i) (few : i < place + 4) (inside : i < length bytes) where
+  pub small-yet : valueOf (between place i bytes) < 2 ^ 21
+  small-yet =
+      let l = value-lt (between place i bytes) in
+      let k = length-between bytes place i (omega arith) in
+      let m : length (between place i bytes) ≤ 3 = omega arith in
+      let p = pow-le-pow-right {n = 128} (omega arith) m in
+      omega arith
+
+  pub value-more : (h : ℕ) → h ≡ valueOf (between place i bytes) → bitOr (h * 128 % 2 ^ 32) (bitAnd (getD bytes i 0) 127) ≡ valueOf (between place (i + 1) bytes)
+  value-more h is =
+      let s = small-yet in
+      ap (λ b. bitOr (h * 128 % 2 ^ 32) b) (low-bits (getD bytes i 0)) ∙ shift-in h (getD bytes i 0 % 128) (omega arith) (omega arith)
+      ∙ ap (λ x. x * 128 + getD bytes i 0 % 128) is ∙ sym (value-push (between place i bytes) (getD bytes i 0)) ∙ ap valueOf (sym (between-more bytes place i 0 from inside))

@@ -1,0 +1,5 @@
+use Rattle.numbers.proofs.Trips.{number-back, number-only}
+use Rattle.numbers.proofs.theorems.numbers_stand.Needs as need
+
+pub returns : need.returns
+returns c = record { back = number-back; only = number-only }

@@ -1,0 +1,19 @@
+-- What the numbers' bytes are for. Assumes nothing.
+use mathlib.Core.Path.{_≡_}
+use mathlib.Core.List.{List, _++_}
+use Prim.Native.Nat.{ℕ, _+_, _^_, _<_}
+use lib.ListN.{length, drop}
+use Rattle.std.specs.shelf.Lists.{All}
+use Rattle.std.specs.declared.result.Result.the-variants.{Ok}
+use Rattle.numbers.specs.declared.codec.Decoded.{Decoded}
+use Rattle.numbers.specs.Numbers.{written, readNumber}
+
+-- a number that stands written at a place reads back as itself, whatever stands before and behind
+abbrev pub Number-back : Type 0
+Number-back = (n place : ℕ) (bytes behind : List ℕ) → n < 2 ^ 32 → drop place bytes ≡ written n ++ behind
+    → readNumber bytes place ≡ Ok (record { value = n; next = place + length (written n) })
+
+-- no other bytes read as that number: what was read is what the number is written as
+abbrev pub Number-only : Type 0
+Number-only = (bytes : List ℕ) (place : ℕ) (d : Decoded) → All (λ b. b < 256) bytes → readNumber bytes place ≡ Ok d
+    → drop place bytes ≡ written (d .value) ++ drop (d .next) bytes
