@@ -1,0 +1,8 @@
+use mathlib.Core.Path.{sym, ap}
+use Rattle.std.specs.Options.{okOr}
+use Rattle.numbers.specs.declared.refusal.Refusal.the-variants.{Image}
+use Rattle.kinds.proofs.Values.{call-at}
+use Rattle.kinds.proofs.proposals.Call.new.Needs as need
+
+pub returns : need.returns
+returns c = sym (ap (λ o. okOr o Image) (call-at _))
