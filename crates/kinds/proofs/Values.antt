@@ -10,7 +10,7 @@ use lib.ListN.{length, getD, take, drop}
 use Rattle.std.specs.Options.{okOr}
 use Rattle.std.specs.declared.option.Option.{Option}
 use Rattle.std.specs.declared.option.Option.the-variants.{Some, None}
-use Rattle.std.specs.declared.result.Result.the-variants.{Ok}
+use Rattle.std.specs.declared.result.Result.the-variants.{Ok, Err}
 use Rattle.kinds.specs.declared.proposals.Piece.{Piece}
 use Rattle.kinds.specs.declared.proposals.Call.{Call}
 use Rattle.kinds.specs.Pieces.{pieceBy, pieceAt, pieceNamed}
@@ -54,7 +54,11 @@ named-two (r ∷ []) k l e = absurd (omega arith)
 named-two (r ∷ n ∷ []) k l e = rw e refl
 named-two (r ∷ n ∷ m ∷ ns) k l e = absurd (omega arith)
 
--- what an accepted image tells
+-- what an accepted image tells, and a refused one
 pub some-from-ok : {T E : Type 0} (o : Option T) (e : E) (x : T) → Ok x ≡ okOr o e → o ≡ Some x
 some-from-ok (Some y) e x is = cc
 some-from-ok None e x is = let z : _≡_ {A = ℕ} 0 1 = cc in absurd (omega arith)
+
+pub none-from-err : {T E : Type 0} (o : Option T) (e f : E) → Err f ≡ okOr o e → o ≡ None
+none-from-err (Some y) e f is = let z : _≡_ {A = ℕ} 0 1 = cc in absurd (omega arith)
+none-from-err None e f is = refl

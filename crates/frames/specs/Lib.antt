@@ -1,0 +1,4 @@
+pub mod Faults
+pub mod Frames
+pub mod Theorems
+pub mod Examples
