@@ -10,6 +10,7 @@ ghost use Rattle.std.specs.shelf.Lists.{All};
 ghost use Rattle.std.specs.declared.option.Option.{Option};
 ghost use Rattle.std.specs.declared.option.Option.the-variants.{Some};
 ghost use Rattle.numbers.specs.declared.refusal.Refusal.the-variants.{Image};
+ghost use Rattle.kinds.specs.Orders.{before};
 use numbers::Refusal;
 
 pub trait Kind: Copy {
@@ -53,4 +54,11 @@ pub trait Kind: Copy {
 
     fn may_go_first(self, other: Self) -> bool
         ensures { λ r. ⌜ r ≡ leads self other ⌝ };
+
+    // It goes before the other: it may go first, and the other may not.
+    fn goes_before(self, other: Self) -> bool
+        ensures { λ r. ⌜ r ≡ before leads self other ⌝ }
+    {
+        self.may_go_first(other) && !other.may_go_first(self)
+    }
 }
