@@ -82,7 +82,7 @@ impl FrameFault {
 pub impl From<FieldFault> for FrameFault as FrameFaultFromField {
     ghost converts = { λ f r. r ≡ Number f };
 
-    fn from(f: FieldFault) -> FrameFault {
-        FrameFault::Number(f)
+    fn from(inner: FieldFault) -> FrameFault {
+        FrameFault::Number(inner)
     }
 }

@@ -74,10 +74,6 @@ pub impl Kind for Call as CallKind {
     }
 
     fn may_go_first(self, other: Call) -> bool {
-        if self.rank == other.rank {
-            self.piece.may_go_first(other.piece)
-        } else {
-            self.rank > other.rank
-        }
+        other.rank < self.rank || (other.rank == self.rank && self.piece.may_go_first(other.piece))
     }
 }

@@ -56,6 +56,6 @@ pub impl Kind for Piece as PieceKind {
     }
 
     fn may_go_first(self, other: Piece) -> bool {
-        self.number <= other.number
+        other.number >= self.number
     }
 }
