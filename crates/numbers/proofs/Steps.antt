@@ -16,7 +16,7 @@ use Rattle.std.proofs.shelf.Sums.{leading-drop-yes, leading-drop-no, leading-dr
 use Rattle.std.proofs.shelf.Tests.{lt-ltb, le-ltb, le-leb, lt-leb, eq-eqb, ne-eqb}
 use Rattle.std.specs.declared.result.Result.the-variants.{Ok}
 use Rattle.numbers.specs.declared.refusal.Refusal.the-variants.{Short, Wide}
-use Rattle.numbers.specs.Numbers.{goesOn, valueOf, refuse, readFront, readNumber}
+use Rattle.numbers.specs.Numbers.{goesOn, valueOf, refuse, readGroups}
 
 pub value-push : (bs : List ℕ) (b : ℕ) → valueOf (bs ++ (b ∷ [])) ≡ valueOf bs * 128 + b % 128
 value-push bs b = ap (number 128) (map-push (λ x. x % 128) bs b) ∙ number-push 128 (map (λ x. x % 128) bs) (b % 128)
@@ -35,23 +35,22 @@ shift-in h b small low = rw (shl-whole h 25 7 32 small (omega arith)) (or-shifte
 pub low-bits : (b : ℕ) → bitAnd b 127 ≡ b % 128
 low-bits b = and-mask b 7
 
--- the bytes from place up to i go on, and the first of them is not 80 (hex)
+-- the bytes from place up to i go on
 module _ (bytes : List ℕ) (place i : ℕ) (from : place ≤ i) (few : i ≤ place + 4)
-    (lead : leading goesOn (drop place bytes) ≡ i - place + leading goesOn (drop i bytes))
-    (first : getD (drop place bytes) 0 0 ≡ 128 → ⊥) where
-  pub at-end : length bytes ≤ i → readNumber bytes place ≡ refuse Short place
-  unfolding readFront
+    (lead : leading goesOn (drop place bytes) ≡ i - place + leading goesOn (drop i bytes)) where
+  pub at-end : length bytes ≤ i → readGroups place (drop place bytes) ≡ refuse Short place
+  unfolding readGroups
   at-end over =
       let none = leading-drop-all goesOn bytes i over in
       let most = leading-le-length goesOn (drop place bytes) in
       let long = length-drop place bytes in
-      rw (ne-eqb (getD (drop place bytes) 0 0) 128 first, lt-leb 5 (leading goesOn (drop place bytes)) (omega arith), eq-eqb (leading goesOn (drop place bytes)) (length (drop place bytes)) (omega arith)) refl
+      rw (lt-leb 5 (leading goesOn (drop place bytes)) (omega arith), eq-eqb (leading goesOn (drop place bytes)) (length (drop place bytes)) (omega arith)) refl
 
-  pub at-fifth : i < length bytes → 128 ≤ getD bytes i 0 → i - place ≡ 4 → readNumber bytes place ≡ refuse Wide place
-  unfolding readFront
+  pub at-fifth : i < length bytes → 128 ≤ getD bytes i 0 → i - place ≡ 4 → readGroups place (drop place bytes) ≡ refuse Wide place
+  unfolding readGroups
   at-fifth inside high full =
       let one = leading-drop-yes goesOn bytes i 0 inside (le-leb 128 (getD bytes i 0) high) in
-      rw (ne-eqb (getD (drop place bytes) 0 0) 128 first, le-leb 5 (leading goesOn (drop place bytes)) (omega arith)) refl
+      rw (le-leb 5 (leading goesOn (drop place bytes)) (omega arith)) refl
 
   last-lead : i < length bytes → getD bytes i 0 < 128 → leading goesOn (drop place bytes) ≡ i - place
   last-lead inside low = let none = leading-drop-no goesOn bytes i 0 inside (lt-leb 128 (getD bytes i 0) low) in omega arith
@@ -63,13 +62,12 @@ module _ (bytes : List ℕ) (place i : ℕ) (from : place ≤ i) (few : i ≤ pl
       rw e (ap valueOf (between-more bytes place i 0 from inside) ∙ value-push (between place i bytes) (getD bytes i 0) ∙ ap (λ x. valueOf (between place i bytes) * 128 + x) m)
 
   pub at-last : i < length bytes → getD bytes i 0 < 128 → valueOf (between place i bytes) < 2 ^ 25
-      → readNumber bytes place ≡ Ok (record { value = valueOf (between place i bytes) * 128 + getD bytes i 0; next = i + 1 })
-  unfolding readFront
+      → readGroups place (drop place bytes) ≡ Ok (record { value = valueOf (between place i bytes) * 128 + getD bytes i 0; next = i + 1 })
+  unfolding readGroups
   at-last inside low small =
       let l = last-lead inside low in
       let n : place + (leading goesOn (drop place bytes) + 1) ≡ i + 1 = omega arith in
       rw (
-        ne-eqb (getD (drop place bytes) 0 0) 128 first,
         lt-leb 5 (leading goesOn (drop place bytes)) (omega arith),
         ne-eqb (leading goesOn (drop place bytes)) (length (drop place bytes)) (λ e. omega (arith, length-drop place bytes)),
         last-value inside low,
@@ -77,12 +75,11 @@ module _ (bytes : List ℕ) (place i : ℕ) (from : place ≤ i) (few : i ≤ pl
         n,
       ) refl
 
-  pub at-wide : i < length bytes → getD bytes i 0 < 128 → 2 ^ 25 ≤ valueOf (between place i bytes) → readNumber bytes place ≡ refuse Wide place
-  unfolding readFront
+  pub at-wide : i < length bytes → getD bytes i 0 < 128 → 2 ^ 25 ≤ valueOf (between place i bytes) → readGroups place (drop place bytes) ≡ refuse Wide place
+  unfolding readGroups
   at-wide inside low big =
       let l = last-lead inside low in
       rw (
-        ne-eqb (getD (drop place bytes) 0 0) 128 first,
         lt-leb 5 (leading goesOn (drop place bytes)) (omega arith),
         ne-eqb (leading goesOn (drop place bytes)) (length (drop place bytes)) (λ e. omega (arith, length-drop place bytes)),
         last-value inside low,

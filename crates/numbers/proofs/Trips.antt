@@ -1,24 +1,25 @@
 -- What is written reads back, and nothing else reads so. Assumes nothing.
 use mathlib.Core.Path.{_≡_, refl, sym, ap, _∙_}
-use mathlib.Core.Bool.{Bool, true, false, cond}
+use mathlib.Core.Bool.{Bool, true, false, cond, _&&_}
+use lib.Dec.{eqb, ltb}
 use mathlib.Core.List.{List, [], _∷_, _++_, map, append-assoc}
 use mathlib.Core.Logic.{_⊎_, inl, inr, ⊎-elim}
 use Prim.Native.Nat.{ℕ, zero, suc, _+_, _-_, _*_, _/_, _%_, _^_, _<_, _≤_}
-use native.Mathlib.Nat.{mul-pos}
+use native.Mathlib.Nat.{add-zero, mul-pos}
 use native.Mathlib.Omega.{arith}
 use lib.ListN.{length, take, drop, getD, length-append, length-map}
 use Rattle.std.specs.shelf.Digits.{digitsOf, number, numberAfter, Under}
 use Rattle.std.specs.shelf.Lists.{All, leading}
 use Rattle.std.proofs.shelf.Bits.{div-mul-add, mod-mul-add}
 use Rattle.std.proofs.shelf.Digits.{digitsOf-step, number-digitsOf, under-digitsOf, first-digitsOf}
-use Rattle.std.proofs.shelf.Lists.{drop-drop, drop-at, take-at, length-push, append-nil}
+use Rattle.std.proofs.shelf.Lists.{getD-drop, getD-past, drop-drop, drop-at, take-at, length-push, append-nil}
 use Rattle.std.proofs.shelf.Sums.{leading-le-length}
-use Rattle.std.proofs.shelf.Tests.{lt-ltb, le-leb, lt-leb, ne-eqb, cases-lt, leb-false, eqb-false}
+use Rattle.std.proofs.shelf.Tests.{lt-ltb, le-leb, lt-leb, ne-eqb, cases-lt, eqb-false, ltb-false, and-right, and-cases}
 use Rattle.std.specs.declared.result.Result.{Result}
 use Rattle.std.specs.declared.result.Result.the-variants.{Ok, Err}
 use Rattle.numbers.specs.declared.codec.NumberFault.{NumberFault}
 use Rattle.numbers.specs.declared.codec.Decoded.{Decoded}
-use Rattle.numbers.specs.Numbers.{marked, written, goesOn, valueOf, readFront, readNumber}
+use Rattle.numbers.specs.Numbers.{marked, written, goesOn, valueOf, readGroups, readNumber}
 use Rattle.numbers.specs.Theorems.{Number-back, Number-only}
 use Rattle.numbers.proofs.Groups.{length-marked, length-written}
 use Rattle.numbers.proofs.Steps.{value-push}
@@ -56,22 +57,29 @@ module _ (ds : List ℕ) (last : ℕ) (behind : List ℕ) (under : Under 128 ds)
   within = omega (arith, lead-marked ds last behind low, length-append (map (λ d. 128 + d) ds) (last ∷ behind), length-map ds (λ d. 128 + d))
 
   -- such bytes read as the number that the groups write
-  reads : (place : ℕ) → (0 < length ds → 0 < getD ds 0 0) → length ds ≤ 4 → number 128 ds * 128 + last < 2 ^ 32
-      → readFront place (map (λ d. 128 + d) ds ++ (last ∷ behind)) ≡ Ok (record { value = number 128 ds * 128 + last; next = place + (length ds + 1) })
-  unfolding readFront
-  reads place first few small =
+  reads : (place : ℕ) → length ds ≤ 4 → number 128 ds * 128 + last < 2 ^ 32
+      → readGroups place (map (λ d. 128 + d) ds ++ (last ∷ behind)) ≡ Ok (record { value = number 128 ds * 128 + last; next = place + (length ds + 1) })
+  unfolding readGroups
+  reads place few small =
       rw (
-        ne-eqb (getD (map (λ d. 128 + d) ds ++ (last ∷ behind)) 0 0) 128 (unpadded ds first),
         value-is,
         lead-marked ds last behind low,
         lt-leb 5 (length ds) (omega arith),
         ne-eqb (length ds) (length (map (λ d. 128 + d) ds ++ (last ∷ behind))) (λ e. omega (arith, within, lead-marked ds last behind low)),
         lt-ltb (number 128 ds * 128 + last) (2 ^ 32) small,
       ) refl
-    where
-      unpadded : (ds : List ℕ) → (0 < length ds → 0 < getD ds 0 0) → getD (map (λ d. 128 + d) ds ++ (last ∷ behind)) 0 0 ≡ 128 → ⊥
-      unpadded [] first e = omega arith
-      unpadded (d ∷ ds) first e = omega (arith, first (omega arith))
+
+-- the first byte is 80 (hex) just if the first group is 0 and not the last
+unpadded : (ds : List ℕ) (last : ℕ) (behind : List ℕ) → last < 128 → (0 < length ds → 0 < getD ds 0 0) → getD (map (λ d. 128 + d) ds ++ (last ∷ behind)) 0 0 ≡ 128 → ⊥
+unpadded [] last behind low first e = omega arith
+unpadded (d ∷ ds) last behind low first e = omega (arith, first (omega arith))
+
+no-zero : (ds : List ℕ) (last : ℕ) (behind : List ℕ) → (getD (map (λ d. 128 + d) ds ++ (last ∷ behind)) 0 0 ≡ 128 → ⊥) → 0 < length ds → (0 < 0) ⊎ (0 < getD ds 0 0)
+no-zero [] last behind ne l = absurd (omega arith)
+no-zero (d ∷ ds) last behind ne l = ⊎-elim (λ h. inr h) (λ h. absurd (ne (omega arith))) (cases-lt 0 d)
+
+first-byte : (bytes : List ℕ) (place : ℕ) → getD (drop place bytes) 0 0 ≡ getD bytes place 0
+first-byte bytes place = getD-drop place bytes 0 0 ∙ ap (λ i. getD bytes i 0) (add-zero place)
 
 some-digits : (h : ℕ) → 0 < length (digitsOf 128 h) → 0 < h
 some-digits zero l = l
@@ -87,9 +95,12 @@ number-back n place bytes behind small is =
     let few : length ds ≤ 4 = omega (arith, length-marked 4 (n / 128) (omega arith), length-map ds (λ d. 128 + d)) in
     let whole : number 128 ds * 128 + n % 128 ≡ n = omega (arith, number-digitsOf 128 (n / 128) (omega arith)) in
     let long : place + (length ds + 1) ≡ place + length (written n) = omega (arith, length-written n, length-map ds (λ d. 128 + d)) in
-    ap (readFront place) (is ∙ written-split n behind)
-    ∙ reads ds (n % 128) behind (under-digitsOf 128 (n / 128) (omega arith)) (omega arith) place (λ l. first-digitsOf 128 (n / 128) (omega arith) (some-digits (n / 128) l)) few (omega arith)
-    ∙ (λ j. Ok (record { value = whole j; next = long j }))
+    let split = is ∙ written-split n behind in
+    let ne : getD bytes place 0 ≡ 128 → ⊥ = λ e. unpadded ds (n % 128) behind (omega arith) (λ l. first-digitsOf 128 (n / 128) (omega arith) (some-digits (n / 128) l)) (ap (λ l. getD l 0 0) (sym split) ∙ first-byte bytes place ∙ e) in
+    rw (and-right (ltb place (length bytes)) (eqb (getD bytes place 0) 128) (ne-eqb (getD bytes place 0) 128 ne)) (
+      ap (readGroups place) split ∙ reads ds (n % 128) behind (under-digitsOf 128 (n / 128) (omega arith)) (omega arith) place few (omega arith)
+      ∙ (λ j. Ok (record { value = whole j; next = long j }))
+    )
 
 -- the groups that bytes begin with, where a last one is among them
 record Grouped (bs : List ℕ) : Type 0 where
@@ -122,40 +133,35 @@ taken : (b : Bool) (f : NumberFault) (x d : Decoded) → cond b (Ok x) (Err f) �
 taken true f x d e = cc
 taken false f x d e = let z : _≡_ {A = ℕ} 0 1 = cc in absurd (omega arith)
 
--- what is known of bytes that read as a number
+-- what is known of groups that read as a number
 record Read (place : ℕ) (bs : List ℕ) (d : Decoded) : Type 0 where
-  unpadded : getD bs 0 0 ≡ 128 → ⊥
   inside : leading goesOn bs ≡ length bs → ⊥
   value : valueOf (take (leading goesOn bs + 1) bs) ≡ d .value
   next : place + (leading goesOn bs + 1) ≡ d .next
 
-read-inv : (place : ℕ) (bs : List ℕ) (d : Decoded) → readFront place bs ≡ Ok d → Read place bs d
-unfolding readFront
+read-inv : (place : ℕ) (bs : List ℕ) (d : Decoded) → readGroups place bs ≡ Ok d → Read place bs d
+unfolding readGroups
 read-inv place bs d e =
-    let a = passes _ _ _ d e in
-    let b = passes _ _ _ d (a .1) in
+    let b = passes _ _ _ d e in
     let w = passes _ _ _ d (b .1) in
     let same = taken _ _ _ d (w .1) in
-    record { unpadded = eqb-false (getD bs 0 0) 128 (a .0); inside = eqb-false (leading goesOn bs) (length bs) (w .0); value = ap (λ (x : Decoded). x .value) same; next = ap (λ (x : Decoded). x .next) same }
+    record { inside = eqb-false (leading goesOn bs) (length bs) (w .0); value = ap (λ (x : Decoded). x .value) same; next = ap (λ (x : Decoded). x .next) same }
 
 all-drop : (n : ℕ) (bs : List ℕ) → All (λ b. b < 256) bs → All (λ b. b < 256) (drop n bs)
 all-drop zero bs all = all
 all-drop (suc n) [] all = tt
 all-drop (suc n) (b ∷ bs) (byte, all) = all-drop n bs all
 
-no-zero : (ds : List ℕ) (last : ℕ) (behind : List ℕ) → (getD (map (λ d. 128 + d) ds ++ (last ∷ behind)) 0 0 ≡ 128 → ⊥) → 0 < length ds → (0 < 0) ⊎ (0 < getD ds 0 0)
-no-zero [] last behind ne l = absurd (omega arith)
-no-zero (d ∷ ds) last behind ne l = ⊎-elim (λ h. inr h) (λ h. absurd (ne (omega arith))) (cases-lt 0 d)
-
-front-only : (place : ℕ) (bs : List ℕ) (d : Decoded) → All (λ b. b < 256) bs → readFront place bs ≡ Ok d → bs ≡ written (d .value) ++ drop (d .next - place) bs
-front-only place bs d all e = only (read-inv place bs d e) (grouped bs all (let r = read-inv place bs d e in omega (arith, r .inside, leading-le-length goesOn bs)))
+-- groups that do not begin with an empty one are what the number that they make is written as
+groups-only : (place : ℕ) (bs : List ℕ) (d : Decoded) → All (λ b. b < 256) bs → (getD bs 0 0 ≡ 128 → ⊥) → Read place bs d → bs ≡ written (d .value) ++ drop (d .next - place) bs
+groups-only place bs d all ne r = only (grouped bs all (omega (arith, r .inside, leading-le-length goesOn bs)))
   where
-    only : Read place bs d → Grouped bs → bs ≡ written (d .value) ++ drop (d .next - place) bs
-    only r g =
+    only : Grouped bs → bs ≡ written (d .value) ++ drop (d .next - place) bs
+    only g =
         let v : number 128 (g .ds) * 128 + g .last ≡ d .value = sym (value-is (g .ds) (g .last) (g .behind) (g .under) (g .low)) ∙ ap (λ l. valueOf (take (leading goesOn l + 1) l)) (sym (g .is)) ∙ r .value in
         let lead : leading goesOn bs ≡ length (g .ds) = ap (leading goesOn) (g .is) ∙ lead-marked (g .ds) (g .last) (g .behind) (g .low) in
-        let ne : getD (map (λ d. 128 + d) (g .ds) ++ (g .last ∷ g .behind)) 0 0 ≡ 128 → ⊥ = λ q. r .unpadded (ap (λ l. getD l 0 0) (g .is) ∙ q) in
-        let digits : digitsOf 128 (d .value / 128) ≡ g .ds = ap (digitsOf 128) (ap (λ x. x / 128) (sym v) ∙ div-mul-add (number 128 (g .ds)) 128 (g .last) (g .low)) ∙ digits-after 128 0 (g .ds) (omega arith) (g .under) (no-zero (g .ds) (g .last) (g .behind) ne) in
+        let first = no-zero (g .ds) (g .last) (g .behind) (λ q. ne (ap (λ l. getD l 0 0) (g .is) ∙ q)) in
+        let digits : digitsOf 128 (d .value / 128) ≡ g .ds = ap (digitsOf 128) (ap (λ x. x / 128) (sym v) ∙ div-mul-add (number 128 (g .ds)) 128 (g .last) (g .low)) ∙ digits-after 128 0 (g .ds) (omega arith) (g .under) first in
         let last : d .value % 128 ≡ g .last = ap (λ x. x % 128) (sym v) ∙ mod-mul-add (number 128 (g .ds)) 128 (g .last) (g .low) in
         let end : length (map (λ d. 128 + d) (g .ds) ++ (g .last ∷ [])) ≡ d .next - place = omega (arith, length-push (map (λ d. 128 + d) (g .ds)) (g .last), length-map (g .ds) (λ d. 128 + d), lead, r .next) in
         let rest : drop (d .next - place) bs ≡ g .behind = ap (drop (d .next - place)) (g .is ∙ sym (append-assoc (map (λ d. 128 + d) (g .ds)) (g .last ∷ []) (g .behind))) ∙ drop-at (map (λ d. 128 + d) (g .ds) ++ (g .last ∷ [])) (g .behind) (d .next - place) end in
@@ -163,6 +169,15 @@ front-only place bs d all e = only (read-inv place bs d e) (grouped bs all (let 
 
 pub number-only : Number-only
 number-only bytes place d all e =
-    let r = read-inv place (drop place bytes) d e in
+    let p = passes (ltb place (length bytes) && eqb (getD bytes place 0) 128) _ _ d e in
+    let r = read-inv place (drop place bytes) d (p .1) in
+    let ne : getD (drop place bytes) 0 0 ≡ 128 → ⊥ = λ q. unread bytes place (p .0) (sym (first-byte bytes place) ∙ q) in
     let j : place + (d .next - place) ≡ d .next = omega (arith, r .next) in
-    front-only place (drop place bytes) d (all-drop place bytes all) e ∙ ap (λ l. written (d .value) ++ l) (drop-drop (d .next - place) place bytes ∙ ap (λ n. drop n bytes) j)
+    groups-only place (drop place bytes) d (all-drop place bytes all) ne r ∙ ap (λ l. written (d .value) ++ l) (drop-drop (d .next - place) place bytes ∙ ap (λ n. drop n bytes) j)
+  where
+    -- the test that passed tells that no 80 stands there, and nothing does past the end
+    unread : (bytes : List ℕ) (place : ℕ) → (ltb place (length bytes) && eqb (getD bytes place 0) 128) ≡ false → getD bytes place 0 ≡ 128 → ⊥
+    unread bytes place f q = ⊎-elim
+        (λ out. omega (arith, getD-past bytes place 0 (ltb-false place (length bytes) out)))
+        (λ no. eqb-false (getD bytes place 0) 128 no q)
+        (and-cases (ltb place (length bytes)) (eqb (getD bytes place 0) 128) f)

@@ -1,5 +1,5 @@
 -- How a number stands in bytes: in groups of seven bits, the highest group first, and every byte but the last with its top bit set. Assumes nothing.
-use mathlib.Core.Bool.{Bool, cond}
+use mathlib.Core.Bool.{Bool, cond, _&&_}
 use mathlib.Core.List.{List, [], _∷_, _++_, map}
 use Prim.Native.Nat.{ℕ, _+_, _/_, _%_, _^_}
 use lib.Dec.{eqb, ltb, leb}
@@ -44,17 +44,16 @@ valueOf bs = number 128 (map (λ b. b % 128) bs)
 abbrev pub refuse : Refusal → ℕ → Result Decoded NumberFault
 refuse e place = Err (record { refusal = e; place = place })
 
--- the number at the front of bs, which begin at a place. A first byte 80 (hex) is refused before all else; then a fifth byte
--- that goes on, even where the bytes end behind it; then an end before the last group; then five groups that exceed 2^32 - 1
-unfoldable pub readFront : ℕ → List ℕ → Result Decoded NumberFault
-readFront place bs =
-    cond (eqb (getD bs 0 0) 128) (refuse Padded place)
-    (cond (leb 5 (leading goesOn bs)) (refuse Wide place)
+-- the number that the groups at the front of bs make, which begin at a place. A fifth byte that goes on is refused before
+-- all else, even where the bytes end behind it; then an end before the last group; then five groups that exceed 2^32 - 1
+unfoldable pub readGroups : ℕ → List ℕ → Result Decoded NumberFault
+readGroups place bs =
+    cond (leb 5 (leading goesOn bs)) (refuse Wide place)
     (cond (eqb (leading goesOn bs) (length bs)) (refuse Short place)
     (cond (ltb (valueOf (take (leading goesOn bs + 1) bs)) (2 ^ 32))
-    (Ok (record { value = valueOf (take (leading goesOn bs + 1) bs); next = place + (leading goesOn bs + 1) }))
-    (refuse Wide place))))
+      (Ok (record { value = valueOf (take (leading goesOn bs + 1) bs); next = place + (leading goesOn bs + 1) }))
+      (refuse Wide place)))
 
--- the number that begins at a place of the bytes
+-- the number that begins at a place of the bytes. A first byte 80 (hex), an empty group, is refused first
 abbrev pub readNumber : List ℕ → ℕ → Result Decoded NumberFault
-readNumber bytes place = readFront place (drop place bytes)
+readNumber bytes place = cond (ltb place (length bytes) && eqb (getD bytes place 0) 128) (refuse Padded place) (readGroups place (drop place bytes))

@@ -1,7 +1,8 @@
 // Numbers in groups of seven bits, the highest group first, every byte but the last with its top bit set.
 ghost use mathlib.Core.Path.{_≡_};
-ghost use lib.ListN.{length};
-ghost use Rattle.numbers.specs.Numbers.{written, writtenAll, fronted, roomFor, readNumber};
+ghost use lib.Dec.{leb};
+ghost use lib.ListN.{length, drop};
+ghost use Rattle.numbers.specs.Numbers.{written, writtenAll, fronted, roomFor, readGroups, readNumber};
 use super::refusal::Refusal;
 
 // A number that was not read: why, and the place of its first byte.
@@ -43,7 +44,7 @@ pub fn write_number(n: u32, out: &mut [u8]) -> Result<usize, Refusal>
     let mut i = len - 1;
     out[i] = (n & 0x7f) as u8;
     let mut rest = n >> 7;
-    while rest > 0 {
+    while rest != 0 {
         i -= 1;
         out[i] = 0x80 | (rest & 0x7f) as u8;
         rest >>= 7;
@@ -51,36 +52,40 @@ pub fn write_number(n: u32, out: &mut [u8]) -> Result<usize, Refusal>
     Ok(len)
 }
 
+// Whether the bytes of the numbers are no more than the room.
+fn fit(numbers: &[u32], room: usize) -> bool
+    ensures { λ r. ⌜ r ≡ leb (length (writtenAll (now (numbers .entry)))) room ⌝ }
+{
+    let mut left = room;
+    for n in numbers {
+        let len = number_len(*n);
+        if left < len {
+            return false;
+        }
+        left -= len;
+    }
+    true
+}
+
 // Writes several numbers, one after another, as `write_number` does one.
 pub fn write_numbers(numbers: &[u32], out: &mut [u8]) -> Result<usize, Refusal>
     ensures told { λ r. ⌜ r ≡ roomFor (writtenAll (now (numbers .entry))) (now (out .entry)) ⌝ }
     ensures bytes { λ _. ⌜ now (out .exit) ≡ fronted (writtenAll (now (numbers .entry))) (now (out .entry)) ⌝ }
 {
-    let mut left = out.len();
-    'room: for n in numbers {
-        let len = number_len(*n);
-        if left < len {
-            return Err(Refusal::Narrow);
-        }
-        left -= len;
+    if !fit(numbers, out.len()) {
+        return Err(Refusal::Narrow);
     }
     let mut at = 0;
-    'put: for n in numbers {
+    for n in numbers {
         at += write_number(*n, &mut out[at..])?;
     }
     Ok(at)
 }
 
-// The number that begins at a place of the bytes.
-pub fn read_number(bytes: &[u8], at: usize) -> Result<Decoded, NumberFault>
-    ensures { λ r. ⌜ r ≡ readNumber (now (bytes .entry)) at ⌝ }
+// The number that the groups from a place on make.
+fn read_groups(bytes: &[u8], at: usize) -> Result<Decoded, NumberFault>
+    ensures { λ r. ⌜ r ≡ readGroups at (drop at (now (bytes .entry))) ⌝ }
 {
-    if at < bytes.len() && bytes[at] == 0x80 {
-        return Err(NumberFault {
-            refusal: Refusal::Padded,
-            place: at,
-        });
-    }
     let mut high: u32 = 0;
     let mut i = at;
     let value = loop {
@@ -110,4 +115,17 @@ pub fn read_number(bytes: &[u8], at: usize) -> Result<Decoded, NumberFault>
         i += 1;
     };
     Ok(Decoded { value, next: i + 1 })
+}
+
+// The number that begins at a place of the bytes.
+pub fn read_number(bytes: &[u8], at: usize) -> Result<Decoded, NumberFault>
+    ensures { λ r. ⌜ r ≡ readNumber (now (bytes .entry)) at ⌝ }
+{
+    if at < bytes.len() && bytes[at] == 0x80 {
+        return Err(NumberFault {
+            refusal: Refusal::Padded,
+            place: at,
+        });
+    }
+    read_groups(bytes, at)
 }

@@ -10,4 +10,4 @@ pub add-len : need.add-len
 add-len c = omega (arith, c .loop-rest .inv, length-written (c .args .n), length-marked 4 (c .args .n / 128) (omega arith))
 
 pub loop-rest-again : need.loop-rest-again
-loop-rest-again c = omega (arith, c .loop-rest .inv, length-marked-step (c .loop-rest .rest) (c .loop-rest-test .taken))
+loop-rest-again c = omega (arith, c .loop-rest .inv, length-marked-step (c .loop-rest .rest) (omega arith))

@@ -25,21 +25,21 @@ loop-rest-holds c =
 -- a place is left below i, within the slice
 down : (c : need.In-loop-rest) → (c .loop-rest .i - 1 + 1 ≡ c .loop-rest .i) × (c .loop-rest .i - 1 < length (c .loop-rest .out))
 down c =
-    let more = length-marked-step (c .loop-rest .rest) (c .loop-rest-test .taken) in
+    let more = length-marked-step (c .loop-rest .rest) (omega arith) in
     (omega (arith, c .loop-rest .inv .0), omega (arith, c .loop-rest .inv .2))
 
 pub sub-i-in-loop-rest : need.sub-i-in-loop-rest
-sub-i-in-loop-rest c = omega (arith, c .loop-rest .inv .0, length-marked-step (c .loop-rest .rest) (c .loop-rest-test .taken))
+sub-i-in-loop-rest c = omega (arith, c .loop-rest .inv .0, length-marked-step (c .loop-rest .rest) (omega arith))
 
 pub index-out-i-in-loop-rest : need.index-out-i-in-loop-rest
 index-out-i-in-loop-rest c = down c .1
 
 pub loop-rest-again : need.loop-rest-again
 loop-rest-again c =
-    let more = length-marked-step (c .loop-rest .rest) (c .loop-rest-test .taken) in
+    let more = length-marked-step (c .loop-rest .rest) (omega arith) in
     let back : c .loop-rest .i - 1 + 1 ≡ c .loop-rest .i = down c .0 in (
       omega (arith, c .loop-rest .inv .0, more),
-      place-more (c .loop-rest .rest) (c .loop-rest .i - 1) (c .loop-rest .out) _ _ (c .loop-rest-test .taken) (down c .1) (marked-byte (c .loop-rest .rest)) (rw back (c .loop-rest .inv .1)),
+      place-more (c .loop-rest .rest) (c .loop-rest .i - 1) (c .loop-rest .out) _ _ (omega arith) (down c .1) (marked-byte (c .loop-rest .rest)) (rw back (c .loop-rest .inv .1)),
       simp length-set (omega (arith, down c .1)),
     )
 
