@@ -51,6 +51,7 @@ image-back bytes (n ∷ ns) behind place (low, small) is =
 
 head-back : (bytes : List ℕ) (r s m : ℕ) (behind : List ℕ) → r < 2 ^ 32 → s < 2 ^ 32 → m < 2 ^ 32 → bytes ≡ written r ++ (written s ++ (written m ++ behind))
     → (k : ℕ) × (readHead bytes ≡ Ok (record { round = record { 0 = r }; sender = record { 0 = s }; missing = record { mask = m }; next = k })) × (drop k bytes ≡ behind) × (k + length behind ≡ length bytes)
+unfolding readHead
 head-back bytes r s m behind r32 s32 m32 is =
     let is₁ = rest-of bytes 0 r (written s ++ (written m ++ behind)) is in
     let is₂ = rest-of bytes (0 + length (written r)) s (written m ++ behind) is₁ in
@@ -92,6 +93,7 @@ image-only bytes (suc size) place p all e =
 
 head-only : (bytes : List ℕ) (h : Head) → All (λ b. b < 256) bytes → readHead bytes ≡ Ok h
     → bytes ≡ written (h .round .0) ++ (written (h .sender .0) ++ (written (h .missing .mask) ++ drop (h .next) bytes))
+unfolding readHead
 head-only bytes h all e =
     let p = next-inv Number (readField field.Round bytes 0) _ h e in
     let q = next-inv Number (readField field.Sender bytes (p .0 .next)) _ h (p .2) in
@@ -114,12 +116,12 @@ end-inv false fault x f e = (refl, cc)
 
 -- the bytes of a frame, field by field
 bytes-are : {K : Type 0} (image : K → List ℕ) (f : Frame K) → frameBytes image f ≡ written (f .round .0) ++ (written (f .sender .0) ++ (written (f .missing .mask) ++ writtenAll (image (f .estimate))))
-unfolding frameBytes writtenAll
+unfolding writtenAll
 bytes-are image f = refl
 
 module _ {K : Type 0} (size : ℕ) (image : K → List ℕ) (named : List ℕ → Option K) where
   pub frame-back : ((x : K) → length (image x) ≡ size) → ((x : K) → All (λ n. n < 268435456) (image x)) → ((x : K) → named (image x) ≡ Some x) → Frame-back size image named
-  unfolding readFrame
+  unfolding readProposal
   frame-back long small back f r32 s32 m32 =
       let bytes = frameBytes image f in
       let x = f .estimate in
@@ -133,7 +135,7 @@ module _ {K : Type 0} (size : ℕ) (image : K → List ℕ) (named : List ℕ �
       wide (n ∷ ns) (low, all) = (omega arith, wide ns all)
 
   pub frame-only : ((ns : List ℕ) (x : K) → named ns ≡ Some x → image x ≡ ns) → Frame-only size image named
-  unfolding readFrame
+  unfolding readProposal
   frame-only only bytes f all e =
       let p = next-inv (λ (d : FrameFault). d) (readHead bytes) _ f e in
       let q = next-inv (λ (d : FrameFault). d) (readProposal size named bytes (p .0 .next)) _ f (p .2) in

@@ -48,9 +48,11 @@ module _ (bytes : List ℕ) (place : ℕ) (ns : List ℕ) where
 -- the proposal of an image that was read, and the fault of one that was not
 module _ {K : Type 0} (size : ℕ) (named : List ℕ → Option K) (bytes : List ℕ) (place count : ℕ) (whole : count ≡ size) where
   pub proposal-is : (ns ms : List ℕ) (end : ℕ) → ns ≡ ms → readImage bytes count place ≡ Ok (ns, end) → readProposal size named bytes place ≡ judged place (named ms) end
+  unfolding readProposal
   proposal-is ns ms end same e = rw (← whole, e) (ap (λ l. judged place (named l) end) same)
 
   pub proposal-stop : (f : FrameFault) → readImage bytes count place ≡ Err f → readProposal size named bytes place ≡ Err f
+  unfolding readProposal
   proposal-stop f e = rw (← whole, e) refl
 
 -- one number of the image more, behind those that come first

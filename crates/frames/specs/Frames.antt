@@ -20,7 +20,7 @@ abbrev pub frameNumbers : {K : Type 0} → (K → List ℕ) → Frame K → List
 frameNumbers image f = f .round .0 ∷ f .sender .0 ∷ f .missing .mask ∷ image (f .estimate)
 
 -- the bytes of a frame
-unfoldable pub frameBytes : {K : Type 0} → (K → List ℕ) → Frame K → List ℕ
+abbrev pub frameBytes : {K : Type 0} → (K → List ℕ) → Frame K → List ℕ
 frameBytes image f = writtenAll (frameNumbers image f)
 
 -- the numbers of an image of some size that begins at a place, and the place behind the last
@@ -31,7 +31,7 @@ readImage bytes (suc size) place =
     andThen (λ e. e) (readImage bytes size (d .next)) (λ rest. Ok (d .value ∷ rest .0, rest .1)))
 
 -- the three numbers in front of the image, and the place behind them
-abbrev pub readHead : List ℕ → Result Head FrameFault
+unfoldable pub readHead : List ℕ → Result Head FrameFault
 readHead bytes =
     andThen Number (readField field.Round bytes 0) (λ round.
     andThen Number (readField field.Sender bytes (round .next)) (λ sender.
@@ -44,11 +44,11 @@ judged place None end = Err (Image place)
 judged place (Some x) end = Ok (x, end)
 
 -- the proposal whose image begins at a place, and the place behind it
-abbrev pub readProposal : {K : Type 0} → ℕ → (List ℕ → Option K) → List ℕ → ℕ → Result (K × ℕ) FrameFault
+unfoldable pub readProposal : {K : Type 0} → ℕ → (List ℕ → Option K) → List ℕ → ℕ → Result (K × ℕ) FrameFault
 readProposal size named bytes place = andThen (λ e. e) (readImage bytes size place) (λ image. judged place (named (image .0)) (image .1))
 
 -- the frame that all the bytes make. Each field is judged when it is reached, and bytes that follow are refused last
-unfoldable pub readFrame : {K : Type 0} → ℕ → (List ℕ → Option K) → List ℕ → Result (Frame K) FrameFault
+abbrev pub readFrame : {K : Type 0} → ℕ → (List ℕ → Option K) → List ℕ → Result (Frame K) FrameFault
 readFrame size named bytes =
     andThen (λ e. e) (readHead bytes) (λ head.
     andThen (λ e. e) (readProposal size named bytes (head .next)) (λ estimate.

@@ -1,8 +1,10 @@
 // A frame is round, sender, missing set and the image of the estimate, in this order, for any kind of proposal.
 ghost use mathlib.Core.Path.{_≡_};
+ghost use Prim.Native.Nat.{_-_, _≤_};
+ghost use lib.ListN.{length, take};
 ghost use Rattle.numbers.specs.Numbers.{fronted, roomFor};
 ghost use Rattle.frames.specs.Faults.{readField};
-ghost use Rattle.frames.specs.Frames.{frameBytes, readHead, readProposal, readFrame};
+ghost use Rattle.frames.specs.Frames.{frameNumbers, frameBytes, readHead, readProposal, readFrame};
 use super::fault::Field;
 use super::fault::FieldFault;
 use super::fault::FrameFault;
@@ -17,10 +19,10 @@ use sets::BoxNumber;
 use sets::BoxSet;
 use sets::RoundNumber;
 
-// Writes the frame to the front of `out` and tells its length; where there is too little room, nothing is touched.
-pub fn write_frame<K: Kind>(frame: Frame<K>, out: &mut [u8]) -> Result<usize, Refusal>
-    ensures told { λ r. ⌜ r ≡ roomFor (frameBytes (K·Kind .image) frame) (now (out .entry)) ⌝ }
-    ensures bytes { λ _. ⌜ now (out .exit) ≡ fronted (frameBytes (K·Kind .image) frame) (now (out .entry)) ⌝ }
+// The numbers of a frame, in front of some places that are not used, and how many they are.
+fn frame_numbers<K: Kind>(frame: Frame<K>) -> ([u32; 7], usize)
+    ensures numbers { λ r. ⌜ take (r .1 - 0) (r .0) ≡ frameNumbers (K·Kind .image) frame ⌝ }
+    ensures places { λ r. ⌜ (length (r .0) ≡ 7) × (r .1 ≤ 7) ⌝ }
 {
     let Frame {
         round,
@@ -33,7 +35,16 @@ pub fn write_frame<K: Kind>(frame: Frame<K>, out: &mut [u8]) -> Result<usize, Re
     for i in 0..count {
         numbers[3 + i] = estimate.image_number(i);
     }
-    write_numbers(&numbers[0..3 + count], out)
+    (numbers, 3 + count)
+}
+
+// Writes the frame to the front of `out` and tells its length; where there is too little room, nothing is touched.
+pub fn write_frame<K: Kind>(frame: Frame<K>, out: &mut [u8]) -> Result<usize, Refusal>
+    ensures told { λ r. ⌜ r ≡ roomFor (frameBytes (K·Kind .image) frame) (now (out .entry)) ⌝ }
+    ensures bytes { λ _. ⌜ now (out .exit) ≡ fronted (frameBytes (K·Kind .image) frame) (now (out .entry)) ⌝ }
+{
+    let (numbers, count) = frame_numbers(frame);
+    write_numbers(&numbers[0..count], out)
 }
 
 // A number of the frame, with its field told where it is at fault.

@@ -98,8 +98,8 @@ number-back n place bytes behind small is =
     let split = is ∙ written-split n behind in
     let ne : getD bytes place 0 ≡ 128 → ⊥ = λ e. unpadded ds (n % 128) behind (omega arith) (λ l. first-digitsOf 128 (n / 128) (omega arith) (some-digits (n / 128) l)) (ap (λ l. getD l 0 0) (sym split) ∙ first-byte bytes place ∙ e) in
     rw (and-right (ltb place (length bytes)) (eqb (getD bytes place 0) 128) (ne-eqb (getD bytes place 0) 128 ne)) (
-      ap (readGroups place) split ∙ reads ds (n % 128) behind (under-digitsOf 128 (n / 128) (omega arith)) (omega arith) place few (omega arith)
-      ∙ (λ j. Ok (record { value = whole j; next = long j }))
+    ap (readGroups place) split ∙ reads ds (n % 128) behind (under-digitsOf 128 (n / 128) (omega arith)) (omega arith) place few (omega arith)
+    ∙ (λ j. Ok (record { value = whole j; next = long j }))
     )
 
 -- the groups that bytes begin with, where a last one is among them

@@ -51,8 +51,8 @@ readGroups place bs =
     cond (leb 5 (leading goesOn bs)) (refuse Wide place)
     (cond (eqb (leading goesOn bs) (length bs)) (refuse Short place)
     (cond (ltb (valueOf (take (leading goesOn bs + 1) bs)) (2 ^ 32))
-      (Ok (record { value = valueOf (take (leading goesOn bs + 1) bs); next = place + (leading goesOn bs + 1) }))
-      (refuse Wide place)))
+    (Ok (record { value = valueOf (take (leading goesOn bs + 1) bs); next = place + (leading goesOn bs + 1) }))
+    (refuse Wide place)))
 
 -- the number that begins at a place of the bytes. A first byte 80 (hex), an empty group, is refused first
 abbrev pub readNumber : List ℕ → ℕ → Result Decoded NumberFault

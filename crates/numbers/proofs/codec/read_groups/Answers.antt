@@ -31,8 +31,7 @@ returns-then-i-at-eq4 c =
 pub loop-i-again : need.loop-i-again
 loop-i-again c =
     let inv = c .loop-i .inv in
-    let one = leading-drop-yes goesOn (c .args .bytes .now) (c .loop-i .i) 0 (omega arith) (le-leb 128 (getD (c .args .bytes .now) (c .loop-i .i) 0) (omega arith)) in
-    (
+    let one = leading-drop-yes goesOn (c .args .bytes .now) (c .loop-i .i) 0 (omega arith) (le-leb 128 (getD (c .args .bytes .now) (c .loop-i .i) 0) (omega arith)) in (
       omega arith,
       omega (arith, inv .0, inv .1),
       value-more (c .args .bytes .now) (c .args .at) (c .loop-i .i) (inv .0) (omega (arith, inv .1)) (omega arith) (c .loop-i .high) (inv .2),

@@ -13,12 +13,11 @@ use Rattle.numbers.proofs.codec.write_numbers.Needs as need
 use Rattle.numbers.proofs.codec.write_numbers.Needs.{After-write-number, In-loop-n}
 
 pub loop-n-holds : need.loop-n-holds
-loop-n-holds c =
-    (
-      sym (ap length writtenAll-nil),
-      ap (λ l. l ++ c .args .out .now) (sym writtenAll-nil),
-      leb-true (length (writtenAll (c .args .numbers .now))) (length (c .args .out .now)) (search needs),
-    )
+loop-n-holds c = (
+  sym (ap length writtenAll-nil),
+  ap (λ l. l ++ c .args .out .now) (sym writtenAll-nil),
+  leb-true (length (writtenAll (c .args .numbers .now))) (length (c .args .out .now)) (search needs),
+)
 
 -- there is room for the next number
 next-room : (c : In-loop-n) → c .loop-n .at + length (written (getD (c .args .numbers .now) (c .loop-n .n-index) 0)) ≤ length (c .args .out .now)
