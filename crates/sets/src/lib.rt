@@ -1,5 +1,6 @@
 // Boxes and rounds by number, and sets of boxes as 32-bit masks.
 mod labels;
+mod masks;
 mod set;
 mod theorems;
 

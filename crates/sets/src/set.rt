@@ -5,9 +5,15 @@ ghost use lib.Dec.{eqb, leb, ltb};
 ghost use Rattle.sets.specs.Tests.{any, count};
 ghost use Rattle.sets.specs.Masks.{member, setOf};
 use super::labels::BoxNumber;
-
-// How many boxes a set has room for.
-const ROOM: u32 = 32;
+use super::masks::either;
+use super::masks::first_alone;
+use super::masks::has_place;
+use super::masks::is_within;
+use super::masks::no_places;
+use super::masks::none_from;
+use super::masks::place_count;
+use super::masks::places_below;
+use super::masks::with_place;
 
 #[derive(Clone, Copy, PartialEq, Eq, Debug)]
 pub struct BoxSet {
@@ -18,15 +24,16 @@ impl BoxSet {
     pub fn empty() -> BoxSet
         ensures { λ r. ⌜ r ≡ setOf (λ _. false) ⌝ }
     {
-        BoxSet { mask: 0 }
+        BoxSet { mask: no_places() }
     }
 
     // The boxes numbered below n.
     pub fn all_below(n: u32) -> BoxSet
         ensures { λ r. ⌜ r ≡ setOf (λ i. ltb i n) ⌝ }
     {
-        let ones = if n < ROOM { (1 << n) - 1 } else { u32::MAX };
-        BoxSet { mask: ones }
+        BoxSet {
+            mask: places_below(n),
+        }
     }
 
     pub fn from_mask(mask: u32) -> BoxSet
@@ -44,19 +51,15 @@ impl BoxSet {
     pub fn contains(self, q: BoxNumber) -> bool
         ensures { λ r. ⌜ r ≡ member self (q .0) ⌝ }
     {
-        q.0 < ROOM && self.mask >> q.0 & 1 == 1
+        has_place(self.mask, q.0)
     }
 
     // The set with one more box; a number for which there is no room adds none.
     pub fn with(self, q: BoxNumber) -> BoxSet
         ensures { λ r. ⌜ r ≡ setOf (λ i. member self i || eqb i (q .0)) ⌝ }
     {
-        if q.0 < ROOM {
-            BoxSet {
-                mask: self.mask | 1 << q.0,
-            }
-        } else {
-            self
+        BoxSet {
+            mask: with_place(self.mask, q.0),
         }
     }
 
@@ -64,7 +67,7 @@ impl BoxSet {
         ensures { λ r. ⌜ r ≡ setOf (λ i. member self i || member other i) ⌝ }
     {
         BoxSet {
-            mask: self.mask | other.mask,
+            mask: either(self.mask, other.mask),
         }
     }
 
@@ -72,7 +75,7 @@ impl BoxSet {
         ensures { λ r. ⌜ r ≡ setOf (λ i. member self i && not (member other i)) ⌝ }
     {
         BoxSet {
-            mask: self.mask & (other.mask ^ u32::MAX),
+            mask: first_alone(self.mask, other.mask),
         }
     }
 
@@ -80,20 +83,20 @@ impl BoxSet {
     pub fn is_subset(self, other: BoxSet) -> bool
         ensures { λ r. ⌜ r ≡ not (any (λ i. member self i && not (member other i)) 32) ⌝ }
     {
-        (self.mask & other.mask) == self.mask
+        is_within(self.mask, other.mask)
     }
 
     // How many boxes it has.
     pub fn count(self) -> u32
         ensures { λ r. ⌜ r ≡ count (member self) 32 ⌝ }
     {
-        u32::count_ones(self.mask)
+        place_count(self.mask)
     }
 
     // Whether all its boxes are numbered below n.
     pub fn is_below(self, n: u32) -> bool
         ensures { λ r. ⌜ r ≡ not (any (λ i. member self i && leb n i) 32) ⌝ }
     {
-        n >= ROOM || self.mask >> n == 0
+        none_from(self.mask, n)
     }
 }
