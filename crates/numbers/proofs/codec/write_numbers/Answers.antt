@@ -3,8 +3,8 @@ use mathlib.Core.Path.{_≡_, refl, sym, _∙_, ap}
 use native.Mathlib.Omega.{arith}
 use mathlib.Core.List.{_++_, []}
 use lib.ListN.{length, getD, take, drop}
-use borrow.Author.Needs.{needs}
-use Rattle.std.proofs.shelf.Tests.{le-leb, leb-true}
+use Rattle.std.proofs.shelf.Tests.{le-leb}
+use Rattle.std.proofs.shelf.Ways.{tells}
 use Rattle.std.specs.declared.result.Result.the-variants.{Ok}
 use Rattle.std.proofs.shelf.Lists.{take-all}
 use Rattle.numbers.specs.Numbers.{written, writtenAll}
@@ -16,7 +16,7 @@ pub loop-n-holds : need.loop-n-holds
 loop-n-holds c = (
   sym (ap length writtenAll-nil),
   ap (λ l. l ++ c .args .out .now) (sym writtenAll-nil),
-  leb-true (length (writtenAll (c .args .numbers .now))) (length (c .args .out .now)) (search needs),
+  grind (arith, tells),
 )
 
 -- there is room for the next number
