@@ -13,7 +13,9 @@ use Rattle.std.proofs.shelf.Digits.{number-push, number-lt}
 use Rattle.std.proofs.shelf.Edits.{between-more, length-between}
 use Rattle.std.proofs.shelf.Lists.{map-push}
 use Rattle.std.proofs.shelf.Sums.{leading-drop-yes, leading-drop-no, leading-drop-all, leading-le-length}
-use Rattle.std.proofs.shelf.Tests.{lt-ltb, le-ltb, le-leb, lt-leb, eq-eqb, ne-eqb}
+use Rattle.std.proofs.shelf.Tests.{lt-ltb, le-ltb, le-leb, lt-leb, eq-eqb, ne-eqb, cond-true, cond-false}
+use mathlib.Core.Bool.{cond}
+use lib.Dec.{ltb}
 use Rattle.std.specs.declared.result.Result.the-variants.{Ok}
 use Rattle.numbers.specs.declared.refusal.Refusal.the-variants.{Short, Wide}
 use Rattle.numbers.specs.Numbers.{goesOn, valueOf, refuse, readGroups}
@@ -61,30 +63,27 @@ module _ (bytes : List ℕ) (place i : ℕ) (from : place ≤ i) (few : i ≤ pl
       let m : getD bytes i 0 % 128 ≡ getD bytes i 0 = omega arith in
       rw e (ap valueOf (between-more bytes place i 0 from inside) ∙ value-push (between place i bytes) (getD bytes i 0) ∙ ap (λ x. valueOf (between place i bytes) * 128 + x) m)
 
-  pub at-last : i < length bytes → getD bytes i 0 < 128 → valueOf (between place i bytes) < 2 ^ 25
-      → readGroups place (drop place bytes) ≡ Ok (record { value = valueOf (between place i bytes) * 128 + getD bytes i 0; next = i + 1 })
+  -- where the byte at i is the last, all hangs on the size of the number
+  last-is : i < length bytes → getD bytes i 0 < 128
+      → readGroups place (drop place bytes)
+      ≡ cond (ltb (valueOf (between place i bytes) * 128 + getD bytes i 0) (2 ^ 32)) (Ok (record { value = valueOf (between place i bytes) * 128 + getD bytes i 0; next = i + 1 })) (refuse Wide place)
   unfolding readGroups
-  at-last inside low small =
+  last-is inside low =
       let l = last-lead inside low in
       let n : place + (leading goesOn (drop place bytes) + 1) ≡ i + 1 = omega arith in
       rw (
         lt-leb 5 (leading goesOn (drop place bytes)) (omega arith),
         ne-eqb (leading goesOn (drop place bytes)) (length (drop place bytes)) (λ e. omega (arith, length-drop place bytes)),
         last-value inside low,
-        lt-ltb (valueOf (between place i bytes) * 128 + getD bytes i 0) (2 ^ 32) (omega arith),
         n,
       ) refl
 
+  pub at-last : i < length bytes → getD bytes i 0 < 128 → valueOf (between place i bytes) < 2 ^ 25
+      → readGroups place (drop place bytes) ≡ Ok (record { value = valueOf (between place i bytes) * 128 + getD bytes i 0; next = i + 1 })
+  at-last inside low small = last-is inside low ∙ cond-true _ _ _ (lt-ltb (valueOf (between place i bytes) * 128 + getD bytes i 0) (2 ^ 32) (omega arith))
+
   pub at-wide : i < length bytes → getD bytes i 0 < 128 → 2 ^ 25 ≤ valueOf (between place i bytes) → readGroups place (drop place bytes) ≡ refuse Wide place
-  unfolding readGroups
-  at-wide inside low big =
-      let l = last-lead inside low in
-      rw (
-        lt-leb 5 (leading goesOn (drop place bytes)) (omega arith),
-        ne-eqb (leading goesOn (drop place bytes)) (length (drop place bytes)) (λ e. omega (arith, length-drop place bytes)),
-        last-value inside low,
-        le-ltb (valueOf (between place i bytes) * 128 + getD bytes i 0) (2 ^ 32) (omega arith),
-      ) refl
+  at-wide inside low big = last-is inside low ∙ cond-false _ _ _ (le-ltb (valueOf (between place i bytes) * 128 + getD bytes i 0) (2 ^ 32) (omega arith))
 
 -- before the fifth group the number so far is small, and one group more is what the reader computes
 module _ (bytes : List ℕ) (place i : ℕ) (from : place ≤ i) (few : i < place + 4) (inside : i < length bytes) where
