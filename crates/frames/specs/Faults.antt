@@ -1,6 +1,6 @@
 -- The faults of a frame: refusal, field and place of each, and how that of a number comes up inside. Assumes nothing.
 use mathlib.Core.List.{List}
-use Prim.Native.Nat.{ℕ}
+use Prim.Native.Nat.{ℕ, zero, suc}
 use lib.Chars.{codes}
 use Rattle.std.specs.declared.result.Result.{Result}
 use Rattle.std.specs.declared.result.Result.the-variants.{Ok, Err}
@@ -21,6 +21,13 @@ fieldWord field.Sender = codes "sender"
 fieldWord field.Set = codes "set"
 fieldWord field.Image = codes "image"
 fieldWord field.End = codes "end"
+
+-- the field of a number of the frame, by how many numbers stand before it
+abbrev pub fieldAt : ℕ → Field
+fieldAt zero = field.Round
+fieldAt (suc zero) = field.Sender
+fieldAt (suc (suc zero)) = field.Set
+fieldAt (suc (suc (suc k))) = field.Image
 
 abbrev pub refusalOf : FrameFault → Refusal
 refusalOf (Number f) = f .fault .refusal

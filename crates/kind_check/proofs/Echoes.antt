@@ -2,7 +2,7 @@
 use mathlib.Core.Path.{_≡_, refl, sym, ap, _∙_}
 use mathlib.Core.Bool.{Bool, true, false, cond}
 use mathlib.Core.List.{List, _++_}
-use Prim.Native.Nat.{ℕ, _-_, _^_, _<_}
+use Prim.Native.Nat.{ℕ, _-_}
 use native.Mathlib.Omega.{arith}
 use lib.Dec.{leb}
 use lib.ListN.{length, take, drop}
@@ -15,7 +15,7 @@ use Rattle.numbers.specs.declared.refusal.Refusal.the-variants.{Narrow}
 use Rattle.numbers.specs.Numbers.{fronted, roomFor}
 use Rattle.frames.specs.declared.frame.Frame.{Frame}
 use Rattle.frames.specs.Frames.{frameBytes, readFrame}
-use Rattle.frames.specs.Theorems.{Frame-back}
+use Rattle.frames.specs.Theorems.{Fits, Frame-back}
 
 -- a length was told, so there was room, and it is that of what was written
 room-from-ok : (b : Bool) (n len : ℕ) → _≡_ {A = Result ℕ Refusal} (Ok len) (cond b (Ok n) (Err Narrow)) → (b ≡ true) × (len ≡ n)
@@ -26,9 +26,9 @@ module _ {K : Type 0} (size : ℕ) (image : K → List ℕ) (named : List ℕ �
   pub room : leb (length (frameBytes image f)) (length out) ≡ true
   room = room-from-ok (leb (length (frameBytes image f)) (length out)) (length (frameBytes image f)) len told .0
 
-  pub reads-back : Frame-back size image named → f .round .0 < 2 ^ 32 → f .sender .0 < 2 ^ 32 → f .missing .mask < 2 ^ 32 → after ≡ fronted (frameBytes image f) out → readFrame size named (take (len - 0) after) ≡ Ok f
-  reads-back back r s m bytes =
+  pub reads-back : Frame-back size image named → Fits f → after ≡ fronted (frameBytes image f) out → readFrame size named (take (len - 0) after) ≡ Ok f
+  reads-back back fits bytes =
       let long = room-from-ok (leb (length (frameBytes image f)) (length out)) (length (frameBytes image f)) len told .1 in
       let e : length (frameBytes image f) ≡ len - 0 = omega arith in
       let is : after ≡ frameBytes image f ++ drop (length (frameBytes image f)) out = rw room at bytes in
-      ap (readFrame size named) (ap (take (len - 0)) is ∙ take-at (frameBytes image f) (drop (length (frameBytes image f)) out) (len - 0) e) ∙ back f r s m
+      ap (readFrame size named) (ap (take (len - 0)) is ∙ take-at (frameBytes image f) (drop (length (frameBytes image f)) out) (len - 0) e) ∙ back f fits

@@ -7,6 +7,7 @@ ghost use Rattle.std.specs.declared.result.Result.the-variants.{Ok, Err};
 ghost use Rattle.numbers.specs.declared.refusal.Refusal.the-variants.{Narrow};
 ghost use Rattle.kinds.specs.Orders.{sooner, foremost};
 ghost use Rattle.frames.specs.Frames.{frameBytes};
+ghost use Rattle.numbers.specs.Numbers.{fronted};
 use frames::Frame;
 use frames::frames_stand;
 use frames::read_frame;
@@ -37,7 +38,8 @@ pub fn leader<K: Kind>(proposals: &[K]) -> Option<K>
 
 // Writes a frame and reads it again: the same frame, or a refusal for want of room.
 pub fn echo<K: Kind>(frame: Frame<K>, out: &mut [u8]) -> Result<Frame<K>, Refusal>
-    ensures { λ r. ⌜ r ≡ cond (leb (length (frameBytes (K·Kind .image) frame)) (length (now (out .entry)))) (Ok frame) (Err Narrow) ⌝ }
+    ensures told { λ r. ⌜ r ≡ cond (leb (length (frameBytes (K·Kind .image) frame)) (length (now (out .entry)))) (Ok frame) (Err Narrow) ⌝ }
+    ensures bytes { λ _. ⌜ now (out .exit) ≡ fronted (frameBytes (K·Kind .image) frame) (now (out .entry)) ⌝ }
 {
     let _ = frames_stand::<K>();
     let len = write_frame(frame, out)?;

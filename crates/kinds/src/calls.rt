@@ -1,6 +1,5 @@
 // Calls, made and compared.
 ghost use mathlib.Core.Path.{_≡_};
-ghost use Prim.Native.Nat.{suc};
 ghost use Rattle.std.specs.Options.{okOr};
 ghost use Rattle.numbers.specs.declared.refusal.Refusal.the-variants.{Image};
 ghost use Rattle.std.specs.declared.option.Option.the-variants.{Some};

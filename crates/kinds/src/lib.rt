@@ -1,4 +1,4 @@
-// Kinds of proposal: what a proposal is to the layers above, and the two kinds that there are.
+// Kinds of proposal: what a proposal is to the layers above, and the two kinds of the product.
 mod calls;
 mod kind;
 mod pieces;

@@ -14,7 +14,7 @@ use Rattle.std.proofs.shelf.Bits.{div-mul-add, mod-mul-add}
 use Rattle.std.proofs.shelf.Digits.{digitsOf-step, number-digitsOf, under-digitsOf, first-digitsOf}
 use Rattle.std.proofs.shelf.Lists.{getD-drop, getD-past, drop-drop, drop-at, take-at, length-push, append-nil}
 use Rattle.std.proofs.shelf.Sums.{leading-le-length}
-use Rattle.std.proofs.shelf.Tests.{lt-ltb, le-leb, lt-leb, ne-eqb, cases-lt, eqb-false, ltb-false, and-right, and-cases}
+use Rattle.std.proofs.shelf.Tests.{lt-ltb, le-leb, lt-leb, ne-eqb, cases-lt, eqb-false, ltb-true, ltb-false, and-right, and-cases}
 use Rattle.std.specs.declared.result.Result.{Result}
 use Rattle.std.specs.declared.result.Result.the-variants.{Ok, Err}
 use Rattle.numbers.specs.declared.codec.NumberFault.{NumberFault}
@@ -129,12 +129,13 @@ passes : (b : Bool) (f : NumberFault) (r : Result Decoded NumberFault) (d : Deco
 passes true f r d e = let z : _≡_ {A = ℕ} 0 1 = cc in absurd (omega arith)
 passes false f r d e = (refl, e)
 
-taken : (b : Bool) (f : NumberFault) (x d : Decoded) → cond b (Ok x) (Err f) ≡ Ok d → x ≡ d
-taken true f x d e = cc
+taken : (b : Bool) (f : NumberFault) (x d : Decoded) → cond b (Ok x) (Err f) ≡ Ok d → (b ≡ true) × (x ≡ d)
+taken true f x d e = (refl, cc)
 taken false f x d e = let z : _≡_ {A = ℕ} 0 1 = cc in absurd (omega arith)
 
 -- what is known of groups that read as a number
 record Read (place : ℕ) (bs : List ℕ) (d : Decoded) : Type 0 where
+  small : d .value < 2 ^ 32
   inside : leading goesOn bs ≡ length bs → ⊥
   value : valueOf (take (leading goesOn bs + 1) bs) ≡ d .value
   next : place + (leading goesOn bs + 1) ≡ d .next
@@ -144,8 +145,16 @@ unfolding readGroups
 read-inv place bs d e =
     let b = passes _ _ _ d e in
     let w = passes _ _ _ d (b .1) in
-    let same = taken _ _ _ d (w .1) in
-    record { inside = eqb-false (leading goesOn bs) (length bs) (w .0); value = ap (λ (x : Decoded). x .value) same; next = ap (λ (x : Decoded). x .next) same }
+    let t = taken _ _ _ d (w .1) in
+    let v = valueOf (take (leading goesOn bs + 1) bs) in
+    let value : v ≡ d .value = ap (λ (x : Decoded). x .value) (t .1) in
+    let below : v < 2 ^ 32 = ltb-true v (2 ^ 32) (t .0) in
+    record {
+      small = rw value at below;
+      inside = eqb-false (leading goesOn bs) (length bs) (w .0);
+      value = value;
+      next = ap (λ (x : Decoded). x .next) (t .1);
+    }
 
 all-drop : (n : ℕ) (bs : List ℕ) → All (λ b. b < 256) bs → All (λ b. b < 256) (drop n bs)
 all-drop zero bs all = all
@@ -153,10 +162,11 @@ all-drop (suc n) [] all = tt
 all-drop (suc n) (b ∷ bs) (byte, all) = all-drop n bs all
 
 -- groups that do not begin with an empty one are what the number that they make is written as
-groups-only : (place : ℕ) (bs : List ℕ) (d : Decoded) → All (λ b. b < 256) bs → (getD bs 0 0 ≡ 128 → ⊥) → Read place bs d → bs ≡ written (d .value) ++ drop (d .next - place) bs
+groups-only : (place : ℕ) (bs : List ℕ) (d : Decoded) → All (λ b. b < 256) bs → (getD bs 0 0 ≡ 128 → ⊥) → Read place bs d
+    → (d .next ≡ place + length (written (d .value))) × (bs ≡ written (d .value) ++ drop (d .next - place) bs)
 groups-only place bs d all ne r = only (grouped bs all (omega (arith, r .inside, leading-le-length goesOn bs)))
   where
-    only : Grouped bs → bs ≡ written (d .value) ++ drop (d .next - place) bs
+    only : Grouped bs → (d .next ≡ place + length (written (d .value))) × (bs ≡ written (d .value) ++ drop (d .next - place) bs)
     only g =
         let v : number 128 (g .ds) * 128 + g .last ≡ d .value = sym (value-is (g .ds) (g .last) (g .behind) (g .under) (g .low)) ∙ ap (λ l. valueOf (take (leading goesOn l + 1) l)) (sym (g .is)) ∙ r .value in
         let lead : leading goesOn bs ≡ length (g .ds) = ap (leading goesOn) (g .is) ∙ lead-marked (g .ds) (g .last) (g .behind) (g .low) in
@@ -164,8 +174,10 @@ groups-only place bs d all ne r = only (grouped bs all (omega (arith, r .inside,
         let digits : digitsOf 128 (d .value / 128) ≡ g .ds = ap (digitsOf 128) (ap (λ x. x / 128) (sym v) ∙ div-mul-add (number 128 (g .ds)) 128 (g .last) (g .low)) ∙ digits-after 128 0 (g .ds) (omega arith) (g .under) first in
         let last : d .value % 128 ≡ g .last = ap (λ x. x % 128) (sym v) ∙ mod-mul-add (number 128 (g .ds)) 128 (g .last) (g .low) in
         let end : length (map (λ d. 128 + d) (g .ds) ++ (g .last ∷ [])) ≡ d .next - place = omega (arith, length-push (map (λ d. 128 + d) (g .ds)) (g .last), length-map (g .ds) (λ d. 128 + d), lead, r .next) in
-        let rest : drop (d .next - place) bs ≡ g .behind = ap (drop (d .next - place)) (g .is ∙ sym (append-assoc (map (λ d. 128 + d) (g .ds)) (g .last ∷ []) (g .behind))) ∙ drop-at (map (λ d. 128 + d) (g .ds) ++ (g .last ∷ [])) (g .behind) (d .next - place) end in
-        g .is ∙ sym (written-split (d .value) (drop (d .next - place) bs) ∙ (λ j. map (λ d. 128 + d) (digits j) ++ (last j ∷ rest j)))
+        let rest : drop (d .next - place) bs ≡ g .behind = ap (drop (d .next - place)) (g .is ∙ sym (append-assoc (map (λ d. 128 + d) (g .ds)) (g .last ∷ []) (g .behind))) ∙ drop-at (map (λ d. 128 + d) (g .ds) ++ (g .last ∷ [])) (g .behind) (d .next - place) end in (
+          omega (arith, r .next, lead, length-written (d .value), length-map (digitsOf 128 (d .value / 128)) (λ d. 128 + d), ap length digits),
+          g .is ∙ sym (written-split (d .value) (drop (d .next - place) bs) ∙ (λ j. map (λ d. 128 + d) (digits j) ++ (last j ∷ rest j))),
+        )
 
 pub number-only : Number-only
 number-only bytes place d all e =
@@ -173,7 +185,8 @@ number-only bytes place d all e =
     let r = read-inv place (drop place bytes) d (p .1) in
     let ne : getD (drop place bytes) 0 0 ≡ 128 → ⊥ = λ q. unread bytes place (p .0) (sym (first-byte bytes place) ∙ q) in
     let j : place + (d .next - place) ≡ d .next = omega (arith, r .next) in
-    groups-only place (drop place bytes) d (all-drop place bytes all) ne r ∙ ap (λ l. written (d .value) ++ l) (drop-drop (d .next - place) place bytes ∙ ap (λ n. drop n bytes) j)
+    let g = groups-only place (drop place bytes) d (all-drop place bytes all) ne r in
+    (r .small, g .0, g .1 ∙ ap (λ l. written (d .value) ++ l) (drop-drop (d .next - place) place bytes ∙ ap (λ n. drop n bytes) j))
   where
     -- the test that passed tells that no 80 stands there, and nothing does past the end
     unread : (bytes : List ℕ) (place : ℕ) → (ltb place (length bytes) && eqb (getD bytes place 0) 128) ≡ false → getD bytes place 0 ≡ 128 → ⊥

@@ -13,7 +13,7 @@ abbrev pub Number-back : Type 0
 Number-back = (n place : ℕ) (bytes behind : List ℕ) → n < 2 ^ 32 → drop place bytes ≡ written n ++ behind
     → readNumber bytes place ≡ Ok (record { value = n; next = place + length (written n) })
 
--- no other bytes read as that number: what was read is what the number is written as
+-- no other bytes read as that number: what was read is a number that there is, and the bytes that it is written as
 abbrev pub Number-only : Type 0
 Number-only = (bytes : List ℕ) (place : ℕ) (d : Decoded) → All (λ b. b < 256) bytes → readNumber bytes place ≡ Ok d
-    → drop place bytes ≡ written (d .value) ++ drop (d .next) bytes
+    → (d .value < 2 ^ 32) × (d .next ≡ place + length (written (d .value))) × (drop place bytes ≡ written (d .value) ++ drop (d .next) bytes)

@@ -1,4 +1,4 @@
-// Why a call was refused. Every refusing call of every layer answers with one of these.
+// Why a call was refused. Every refusing call of every layer tells one of these, alone or inside a fault.
 ghost use mathlib.Core.Path.{_≡_};
 ghost use Rattle.numbers.specs.Refusals.{numberOf, wordOf};
 

@@ -1,8 +1,10 @@
-// The theorems on numbers, each on the contract of a function.
+// The theorems on numbers, on the contract of a function; what the function returns is of no meaning.
+ghost use mathlib.Core.Path.{_≡_};
 ghost use Rattle.numbers.specs.Theorems.{Number-back, Number-only};
 
 // A number that is written reads back as itself, and no other bytes read as it.
 pub fn numbers_stand() -> u8
+    ensures zero { λ r. ⌜ r ≡ 0 ⌝ }
     ensures back { λ _. ⌜ Number-back ⌝ }
     ensures only { λ _. ⌜ Number-only ⌝ }
 {

@@ -4,12 +4,16 @@ use mathlib.Core.Bool.{Bool, true, false, _&&_}
 use Prim.Native.Nat.{ℕ, _^_, _<_, _≤_}
 use lib.Count.{ones}
 use lib.Dec.{ltb}
-use Rattle.sets.specs.Tests.{count}
+use Rattle.sets.specs.Tests.{any, count}
 use Rattle.sets.specs.Masks.{bit, maskOf}
 
 -- below n, P passes only where Q does
 abbrev pub Within : (ℕ → Bool) → (ℕ → Bool) → ℕ → Type 0
 Within P Q n = (k : ℕ) → k < n → P k ≡ true → Q k ≡ true
+
+-- some number below n passes exactly if one can be named
+abbrev pub Any-named : Type 0
+Any-named = (P : ℕ → Bool) (n : ℕ) → (any P n ≡ true → (k : ℕ) × (k < n) × (P k ≡ true)) × ((k : ℕ) → k < n → P k ≡ true → any P n ≡ true)
 
 -- the count of set bits is the count of members
 abbrev pub Ones-counted : Type 0

@@ -1,4 +1,4 @@
-// Masks of 32 bits, read as tests on places. No other code shifts or masks.
+// Masks of 32 bits, read as tests on places. No other code of this crate shifts or masks.
 ghost use mathlib.Core.Path.{_≡_};
 ghost use mathlib.Core.Bool.{false, not, _&&_, _||_};
 ghost use lib.Dec.{eqb, leb, ltb};

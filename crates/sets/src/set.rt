@@ -1,4 +1,5 @@
-// A set of boxes: bit i of the mask stands for box i. Contracts speak of members, not of bits.
+// A set of boxes: bit i of the mask stands for box i. Contracts speak of members; only `from_mask` and `mask`, by which a
+// set is sent, speak of the mask itself.
 ghost use mathlib.Core.Path.{_≡_};
 ghost use mathlib.Core.Bool.{false, not, _&&_, _||_};
 ghost use lib.Dec.{eqb, leb, ltb};

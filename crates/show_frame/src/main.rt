@@ -11,7 +11,7 @@ use sets::BoxSet;
 use std::io;
 use std::io::Read;
 
-// A frame of pieces is four numbers of at most five bytes each, so bytes behind these change no answer.
+// A frame of pieces is four numbers of at most five bytes each, so no byte behind the first 21 changes the answer.
 const MOST_READ: u64 = 64;
 
 const LONGEST: usize = 20;

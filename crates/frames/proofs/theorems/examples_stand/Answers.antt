@@ -8,4 +8,4 @@ use Rattle.frames.proofs.theorems.examples_stand.Needs as need
 
 pub returns : need.returns
 unfolding readGroups readImage readHead readProposal maskOf
-returns c = (refl, refl, refl, refl, refl, rw (piece-at (record { number = 20; most = lit≤ tt })) refl)
+returns c = record { zero = refl; examples = (refl, refl, refl, refl, refl, rw (piece-at (record { number = 20; most = lit≤ tt })) refl) }
