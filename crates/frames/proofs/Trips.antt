@@ -3,7 +3,6 @@ use mathlib.Core.Path.{_≡_, refl, sym, ap, _∙_}
 use mathlib.Core.Bool.{Bool, true, false, cond}
 use mathlib.Core.List.{List, [], _∷_, _++_, append-assoc, append-nil}
 use Prim.Native.Nat.{ℕ, zero, suc, _+_, _^_, _<_, _≤_}
-use native.Mathlib.Nat.{add-zero}
 use native.Mathlib.Omega.{arith}
 use lib.Dec.{ltb}
 use lib.ListN.{length, drop, length-append}
@@ -21,13 +20,12 @@ use Rattle.numbers.proofs.Laid.{writtenAll-nil, writtenAll-cons, writtenAll-app
 use Rattle.numbers.proofs.Trips.{number-back, number-only}
 use Rattle.frames.specs.declared.fault.Field.{Field}
 use Rattle.frames.specs.declared.fault.Field.the-variants as field
-use Rattle.frames.specs.declared.fault.FieldFault.{FieldFault}
 use Rattle.frames.specs.declared.fault.FrameFault.{FrameFault}
 use Rattle.frames.specs.declared.fault.FrameFault.the-variants.{Number, Image, Surplus}
 use Rattle.frames.specs.declared.codec.Head.{Head}
 use Rattle.frames.specs.declared.frame.Frame.{Frame}
 use Rattle.frames.specs.Faults.{andThen, inField, readField}
-use Rattle.frames.specs.Frames.{frameBytes, frameNumbers, readImage, readHead, judged, readProposal, readFrame}
+use Rattle.frames.specs.Frames.{frameBytes, readImage, readHead, judged, readProposal, readFrame}
 use Rattle.frames.specs.Theorems.{Fits, Frame-back, Frame-only, Frame-number, Frame-image, Frame-surplus}
 
 -- ---- reading back

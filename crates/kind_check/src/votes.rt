@@ -1,5 +1,4 @@
 // Votes as a kind.
-ghost use mathlib.Core.Path.{_≡_};
 ghost use Rattle.kind_check.specs.Votes.{voteImage, voteNamed, voteLeads};
 use super::vote::Vote;
 use kinds::Kind;

@@ -1,5 +1,5 @@
 -- Proposals with equal numbers are equal: their ghost fields have one proof each. Assumes nothing.
-use mathlib.Core.Path.{_≡_, refl, sym, ap, _∙_}
+use mathlib.Core.Path.{_≡_, refl, ap}
 use mathlib.Core.HLevel.{isProp→PathP}
 use mathlib.Core.List.{List, [], _∷_}
 use Prim.Native.Nat.{ℕ, _≤_, _-_}

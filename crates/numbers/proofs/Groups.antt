@@ -1,10 +1,10 @@
 -- The bytes of a number, group by group. Assumes nothing.
-use mathlib.Core.Path.{_≡_, refl, sym, ap, _∙_}
+use mathlib.Core.Path.{_≡_, sym, ap, _∙_}
 use mathlib.Core.List.{List, [], _∷_, _++_, map, append-assoc}
-use Prim.Native.Nat.{ℕ, zero, suc, _+_, _-_, _*_, _/_, _%_, _^_, _<_, _≤_}
+use Prim.Native.Nat.{ℕ, zero, suc, _+_, _-_, _/_, _%_, _^_, _<_, _≤_}
 use native.Mathlib.Omega.{arith}
 use lib.Bits.{bitAnd, bitOr}
-use lib.ListN.{length, drop, take, set, length-append, length-map}
+use lib.ListN.{length, drop, set, length-append, length-map}
 use Rattle.std.specs.shelf.Digits.{digitsOf}
 use Rattle.std.proofs.shelf.Digits.{digitsOf-step, length-digitsOf-le}
 use Rattle.std.proofs.shelf.Bits.{and-mask, or-shifted}

@@ -19,7 +19,7 @@ use Rattle.std.specs.declared.result.Result.{Result}
 use Rattle.std.specs.declared.result.Result.the-variants.{Ok, Err}
 use Rattle.numbers.specs.declared.codec.NumberFault.{NumberFault}
 use Rattle.numbers.specs.declared.codec.Decoded.{Decoded}
-use Rattle.numbers.specs.Numbers.{marked, written, goesOn, valueOf, readGroups, readNumber}
+use Rattle.numbers.specs.Numbers.{marked, written, goesOn, valueOf, readGroups}
 use Rattle.numbers.specs.Theorems.{Number-back, Number-only}
 use Rattle.numbers.proofs.Groups.{length-marked, length-written}
 use Rattle.numbers.proofs.Steps.{value-push}

@@ -1,5 +1,5 @@
 use Prim.Native.Nat.{_/_, _+_, _-_, _<_}
-use mathlib.Core.Path.{_≡_, sym, _∙_}
+use mathlib.Core.Path.{_≡_}
 use borrow.Author.Needs.{needs}
 use Rattle.std.proofs.shelf.Lists.{drop-set-lt, length-set}
 use native.Mathlib.Omega.{arith}
