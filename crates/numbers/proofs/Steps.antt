@@ -31,8 +31,8 @@ pub value-lt : (bs : List ℕ) → valueOf bs < 128 ^ length bs
 value-lt bs = rw (length-map bs (λ b. b % 128)) at (number-lt 128 (map (λ b. b % 128) bs) (under-low bs))
 
 -- what the reader computes of a group
-pub shift-in : (h b : ℕ) → h < 2 ^ 25 → b < 128 → bitOr (h * 128 % 2 ^ 32) b ≡ h * 128 + b
-shift-in h b small low = rw (shl-whole h 25 7 32 small (omega arith)) (or-shifted h 7 b low)
+pub shift-in : (h m b : ℕ) → h ≡ m → h < 2 ^ 25 → b < 128 → bitOr (h * 128 % 2 ^ 32) b ≡ m * 128 + b
+shift-in h m b is small low = rw (shl-whole h 25 7 32 small (omega arith)) (or-shifted h 7 b low ∙ ap (λ x. x * 128 + b) is)
 
 pub low-bits : (b : ℕ) → bitAnd b 127 ≡ b % 128
 low-bits b = and-mask b 7
@@ -78,9 +78,11 @@ module _ (bytes : List ℕ) (place i : ℕ) (from : place ≤ i) (few : i ≤ pl
         n,
       ) refl
 
-  pub at-last : i < length bytes → getD bytes i 0 < 128 → valueOf (between place i bytes) < 2 ^ 25
-      → readGroups place (drop place bytes) ≡ Ok (record { value = valueOf (between place i bytes) * 128 + getD bytes i 0; next = i + 1 })
-  at-last inside low small = last-is inside low ∙ cond-true _ _ _ (lt-ltb (valueOf (between place i bytes) * 128 + getD bytes i 0) (2 ^ 32) (omega arith))
+  pub at-last : (v : ℕ) → v ≡ valueOf (between place i bytes) * 128 + getD bytes i 0 → i < length bytes → getD bytes i 0 < 128 → valueOf (between place i bytes) < 2 ^ 25
+      → Ok (record { value = v; next = i + 1 }) ≡ readGroups place (drop place bytes)
+  at-last v is inside low small =
+      ap (λ n. Ok (record { value = n; next = i + 1 })) is
+      ∙ sym (last-is inside low ∙ cond-true _ _ _ (lt-ltb (valueOf (between place i bytes) * 128 + getD bytes i 0) (2 ^ 32) (omega arith)))
 
   pub at-wide : i < length bytes → getD bytes i 0 < 128 → 2 ^ 25 ≤ valueOf (between place i bytes) → readGroups place (drop place bytes) ≡ refuse Wide place
   at-wide inside low big = last-is inside low ∙ cond-false _ _ _ (le-ltb (valueOf (between place i bytes) * 128 + getD bytes i 0) (2 ^ 32) (omega arith))
@@ -98,5 +100,5 @@ module _ (bytes : List ℕ) (place i : ℕ) (from : place ≤ i) (few : i < plac
   pub value-more : (h : ℕ) → h ≡ valueOf (between place i bytes) → bitOr (h * 128 % 2 ^ 32) (bitAnd (getD bytes i 0) 127) ≡ valueOf (between place (i + 1) bytes)
   value-more h is =
       let s = small-yet in
-      ap (λ b. bitOr (h * 128 % 2 ^ 32) b) (low-bits (getD bytes i 0)) ∙ shift-in h (getD bytes i 0 % 128) (omega arith) (omega arith)
-      ∙ ap (λ x. x * 128 + getD bytes i 0 % 128) is ∙ sym (value-push (between place i bytes) (getD bytes i 0)) ∙ ap valueOf (sym (between-more bytes place i 0 from inside))
+      ap (λ b. bitOr (h * 128 % 2 ^ 32) b) (low-bits (getD bytes i 0)) ∙ shift-in h (valueOf (between place i bytes)) (getD bytes i 0 % 128) is (omega arith) (omega arith)
+      ∙ sym (value-push (between place i bytes) (getD bytes i 0)) ∙ ap valueOf (sym (between-more bytes place i 0 from inside))

@@ -1,11 +1,10 @@
-use Prim.Native.Nat.{_+_, _*_}
-use mathlib.Core.Path.{sym, _∙_, ap}
+use mathlib.Core.Path.{sym, ap}
 use native.Mathlib.Omega.{arith}
+use borrow.Author.Needs.{needs}
 use lib.ListN.{getD}
 use Rattle.std.proofs.shelf.Edits.{between-none}
 use Rattle.std.proofs.shelf.Sums.{leading-drop-yes}
 use Rattle.std.proofs.shelf.Tests.{le-leb}
-use Rattle.std.specs.declared.result.Result.the-variants.{Ok}
 use Rattle.numbers.specs.Numbers.{goesOn, valueOf}
 use Rattle.numbers.proofs.Steps.{at-end, at-fifth, at-last, at-wide, value-more, shift-in}
 use Rattle.numbers.proofs.codec.read_groups.Needs as need
@@ -41,5 +40,5 @@ loop-i-again c =
 pub returns : need.returns
 returns c =
     let inv = c .loop-i .inv in
-    ap (λ v. Ok (record { value = v; next = c .loop-i .i + 1 })) (shift-in (c .loop-i .high) (getD (c .args .bytes .now) (c .loop-i .i) 0) (omega arith) (omega arith) ∙ ap (λ h. h * 128 + getD (c .args .bytes .now) (c .loop-i .i) 0) (inv .2))
-    ∙ sym (at-last (c .args .bytes .now) (c .args .at) (c .loop-i .i) (inv .0) (inv .1) (inv .3) (omega arith) (omega arith) (omega (arith, inv .2)))
+    let same = inv .2 in
+    at-last (c .args .bytes .now) (c .args .at) (c .loop-i .i) (inv .0) (inv .1) (inv .3) _ (search (needs, shift-in)) (omega arith) (omega arith) (omega (arith, same))

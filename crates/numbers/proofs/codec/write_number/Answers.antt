@@ -39,7 +39,7 @@ loop-rest-again c =
     let more = length-marked-step (c .loop-rest .rest) (omega arith) in
     let back : c .loop-rest .i - 1 + 1 ≡ c .loop-rest .i = down c .0 in (
       omega (arith, c .loop-rest .inv .0, more),
-      place-more (c .loop-rest .rest) (c .loop-rest .i - 1) (c .loop-rest .out) _ _ (omega arith) (down c .1) (marked-byte (c .loop-rest .rest)) (rw back (c .loop-rest .inv .1)),
+      place-more (c .loop-rest .rest) (c .loop-rest .i - 1) (c .loop-rest .out) _ _ (omega arith) (down c .1) (search (needs, marked-byte)) (rw back (c .loop-rest .inv .1)),
       simp length-set (omega (arith, down c .1)),
     )
 
