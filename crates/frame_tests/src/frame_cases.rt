@@ -84,13 +84,26 @@ fn frames_of_both_kinds() -> Result<(), Fail> {
 }
 
 #[test]
-fn longest_frame() -> Result<(), Fail> {
+fn longest_frames() -> Result<(), Fail> {
     let piece = accepted(Piece::new(16383))?;
     let call = accepted(Call::new(1, piece))?;
+    let round = RoundNumber(u32::MAX);
+    let sender = BoxNumber(u32::MAX);
+    let missing = BoxSet::all_below(32);
+    let short = Frame {
+        round,
+        sender,
+        missing,
+        estimate: piece,
+    };
+    holds(
+        b"\x8f\xff\xff\xff\x7f\x8f\xff\xff\xff\x7f\x8f\xff\xff\xff\x7f\xff\x7f",
+        short,
+    )?;
     let frame = Frame {
-        round: RoundNumber(u32::MAX),
-        sender: BoxNumber(u32::MAX),
-        missing: BoxSet::all_below(32),
+        round,
+        sender,
+        missing,
         estimate: call,
     };
     holds(

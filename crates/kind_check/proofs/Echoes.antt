@@ -26,9 +26,10 @@ module _ {K : Type 0} (size : ℕ) (image : K → List ℕ) (named : List ℕ �
   pub room : leb (length (frameBytes image f)) (length out) ≡ true
   room = room-from-ok (leb (length (frameBytes image f)) (length out)) (length (frameBytes image f)) len told .0
 
-  pub reads-back : Frame-back size image named → Fits f → after ≡ fronted (frameBytes image f) out → readFrame size named (take (len - 0) after) ≡ Ok f
-  reads-back back fits bytes =
+  -- what is read are the bytes that were written, all of them
+  pub reads-back : (end : ℕ) → end ≡ len → Frame-back size image named → Fits f → after ≡ fronted (frameBytes image f) out → readFrame size named (take end after) ≡ Ok f
+  reads-back end all back fits bytes =
       let long = room-from-ok (leb (length (frameBytes image f)) (length out)) (length (frameBytes image f)) len told .1 in
-      let e : length (frameBytes image f) ≡ len - 0 = omega arith in
+      let e : length (frameBytes image f) ≡ end = omega arith in
       let is : after ≡ frameBytes image f ++ drop (length (frameBytes image f)) out = rw room at bytes in
-      ap (readFrame size named) (ap (take (len - 0)) is ∙ take-at (frameBytes image f) (drop (length (frameBytes image f)) out) (len - 0) e) ∙ back f fits
+      ap (readFrame size named) (ap (take end) is ∙ take-at (frameBytes image f) (drop (length (frameBytes image f)) out) end e) ∙ back f fits

@@ -40,7 +40,11 @@ judges g c =
     proposal-is (g .K·Kind .size) (g .K·Kind .named) (c .args .bytes .now) (c .args .at) (c .image-len-count .result) (c .image-len-count .ensures) (take (c .loop-i .i) (c .loop-i .image)) (take (c .image-len-count .result - 0) (c .loop-i .image)) (c .loop-i .next) (ap (λ n. take n (c .loop-i .image)) end) (sym (c .loop-i .inv .1) ∙ read)
 
 pub returns-in-Ok : need.returns-in-Ok
-returns-in-Ok g c = sym (judges g (need.at·returns-in-Ok g c .After-from-image) ∙ ap (λ o. judged (c .args .at) o (c .loop-i .next)) (some-from-ok _ Image (c .in-Ok .proposal) (c .in-Ok .ensures tt)))
+returns-in-Ok g c =
+    let is = judges g (need.at·returns-in-Ok g c .After-from-image) ∙ ap (λ o. judged (c .args .at) o (c .loop-i .next)) (some-from-ok _ Image (c .in-Ok .proposal) (c .in-Ok .ensures tt)) in
+    cc is
 
 pub returns-in-Err : need.returns-in-Err
-returns-in-Err g c = sym (judges g (need.at·returns-in-Err g c .After-from-image) ∙ ap (λ o. judged (c .args .at) o (c .loop-i .next)) (none-from-err _ Image (c .in-Err .field-0) (c .in-Err .ensures tt)))
+returns-in-Err g c =
+    let is = judges g (need.at·returns-in-Err g c .After-from-image) ∙ ap (λ o. judged (c .args .at) o (c .loop-i .next)) (none-from-err _ Image (c .in-Err .field-0) (c .in-Err .ensures tt)) in
+    cc is

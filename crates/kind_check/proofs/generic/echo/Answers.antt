@@ -11,7 +11,7 @@ use Rattle.kind_check.proofs.generic.echo.Needs.{After-read-frame}
 back : (g : given.Over) (c : After-read-frame g) → c .read-frame .result ≡ Ok (c .args .frame)
 back g c =
     let wrote = c .in-Continue-len .ensures tt in
-    c .read-frame .ensures ∙ reads-back (g .K·Kind .size) (g .K·Kind .image) (g .K·Kind .named) (c .args .frame) (c .in-Continue-len .len) (c .args .out .now) (c .write-frame .last .out) (wrote .told) (c .frames-stand .ensures .back) (omega arith, omega arith, omega arith) (wrote .bytes)
+    c .read-frame .ensures ∙ reads-back (g .K·Kind .size) (g .K·Kind .image) (g .K·Kind .named) (c .args .frame) (c .in-Continue-len .len) (c .args .out .now) (c .write-frame .last .out) (wrote .told) _ (omega arith) (c .frames-stand .ensures .back) (omega arith, omega arith, omega arith) (wrote .bytes)
 
 pub returns-in-Ok : need.returns-in-Ok
 returns-in-Ok g c =

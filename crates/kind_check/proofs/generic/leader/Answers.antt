@@ -5,7 +5,7 @@ use native.Mathlib.Omega.{arith}
 use lib.ListN.{getD, length}
 use Rattle.std.proofs.shelf.Lists.{getD-read}
 use Rattle.std.specs.declared.option.Option.the-variants.{Some}
-use Rattle.kinds.specs.Orders.{sooner, foremost}
+use Rattle.kinds.specs.Orders.{foremost}
 use Rattle.kind_check.proofs.generic.leader.Needs as need
 
 pub loop-x-holds : need.loop-x-holds
@@ -16,7 +16,9 @@ pub loop-x-again : need.loop-x-again
 unfolding foremost
 loop-x-again g c d =
     let read = getD-read (c .args .proposals .now) (c .loop-x .x-index) (c .x-item .result) (c .loop-x-test .taken) (c .x-item .is) d in
-    rw (add-one (c .loop-x .x-index)) (ap Some (c .first-of .ensures ∙ (λ j. sooner (g .K·Kind .leads) (c .loop-x .inv d j) (read j))))
+    let first = c .first-of .ensures in
+    let so-far = c .loop-x .inv d in
+    rw (add-one (c .loop-x .x-index)) (ap Some (cc))
 
 pub returns : need.returns
 returns g c d =
