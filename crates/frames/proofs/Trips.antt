@@ -2,7 +2,7 @@
 use mathlib.Core.Path.{_≡_, refl, sym, ap, _∙_}
 use mathlib.Core.Bool.{Bool, true, false, cond}
 use mathlib.Core.List.{List, [], _∷_, _++_, append-assoc, append-nil}
-use Prim.Native.Nat.{ℕ, zero, suc, _+_, _^_, _<_, _≤_}
+use Prim.Native.Nat.{ℕ, zero, suc, _+_, _*_, _^_, _<_, _≤_}
 use native.Mathlib.Omega.{arith}
 use lib.Dec.{ltb}
 use lib.ListN.{length, drop, length-append}
@@ -16,6 +16,7 @@ use Rattle.std.specs.declared.result.Result.the-variants.{Ok, Err}
 use Rattle.numbers.specs.declared.codec.Decoded.{Decoded}
 use Rattle.numbers.specs.Numbers.{written, writtenAll, readNumber}
 use Rattle.numbers.specs.declared.codec.NumberFault.{NumberFault}
+use Rattle.numbers.proofs.Groups.{number-length}
 use Rattle.numbers.proofs.Laid.{writtenAll-nil, writtenAll-cons, writtenAll-append}
 use Rattle.numbers.proofs.Trips.{number-back, number-only}
 use Rattle.frames.specs.declared.fault.Field.{Field}
@@ -26,7 +27,7 @@ use Rattle.frames.specs.declared.codec.Head.{Head}
 use Rattle.frames.specs.declared.frame.Frame.{Frame}
 use Rattle.frames.specs.Faults.{andThen, inField, readField}
 use Rattle.frames.specs.Frames.{frameBytes, readImage, readHead, judged, readProposal, readFrame}
-use Rattle.frames.specs.Theorems.{Fits, Frame-back, Frame-only, Frame-number, Frame-image, Frame-surplus}
+use Rattle.frames.specs.Theorems.{Fits, Frame-back, Frame-only, Frame-number, Frame-image, Frame-surplus, Frame-length}
 
 -- ---- reading back
 
@@ -169,6 +170,11 @@ wide : (ns : List ℕ) → All (λ n. n < 268435456) ns → All (λ n. n < 2 ^ 3
 wide [] all = tt
 wide (n ∷ ns) (low, all) = (omega arith, wide ns all)
 
+-- a number of an image takes at most four bytes
+image-length : (ns : List ℕ) → All (λ n. n < 268435456) ns → length (writtenAll ns) ≤ 4 * length ns
+image-length [] all = omega (arith, length-nil)
+image-length (n ∷ ns) (low, all) = omega (arith, image-length ns all, length-cons n ns, number-length 3 n low .1)
+
 module _ {K : Type 0} (size : ℕ) (image : K → List ℕ) (named : List ℕ → Option K) where
   pub frame-image : Frame-image size image named
   frame-image r s m ns behind all long none =
@@ -212,6 +218,22 @@ module _ {K : Type 0} (size : ℕ) (image : K → List ℕ) (named : List ℕ �
 
     pub frame-surplus : Frame-surplus size image named
     frame-surplus f b behind fits = frame-then f (b ∷ behind) fits ∙ cond-true _ _ _ (lt-ltb (length (frameBytes image f)) (length (frameBytes image f ++ (b ∷ behind))) (omega (arith, length-append (frameBytes image f) (b ∷ behind))))
+
+    pub frame-length : Frame-length size image named
+    frame-length f a b c r s m =
+        let x = f .estimate in
+        let ns = image x in
+        omega (
+          arith,
+          length-cons (f .round .0) (f .sender .0 ∷ f .missing .mask ∷ ns),
+          length-cons (f .sender .0) (f .missing .mask ∷ ns),
+          length-cons (f .missing .mask) ns,
+          number-length a (f .round .0) r .1,
+          number-length b (f .sender .0) s .1,
+          number-length c (f .missing .mask) m .1,
+          image-length ns (small x),
+          long x,
+        )
 
   pub frame-only : ((ns : List ℕ) (x : K) → named ns ≡ Some x → image x ≡ ns) → Frame-only size image named
   unfolding readProposal

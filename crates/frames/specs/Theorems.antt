@@ -1,7 +1,7 @@
 -- What the bytes of a frame are for, and which bytes are refused how. Assumes nothing.
 use mathlib.Core.Path.{_≡_}
 use mathlib.Core.List.{List, [], _∷_, _++_}
-use Prim.Native.Nat.{ℕ, _+_, _^_, _<_}
+use Prim.Native.Nat.{ℕ, suc, _+_, _*_, _^_, _<_, _≤_}
 use lib.ListN.{length}
 use Rattle.std.specs.shelf.Lists.{All}
 use Rattle.std.specs.declared.option.Option.{Option}
@@ -41,3 +41,8 @@ module _ {K : Type 0} (size : ℕ) (image : K → List ℕ) (named : List ℕ �
   -- where bytes follow a frame, the first of them is refused
   abbrev pub Frame-surplus : Type 0
   Frame-surplus = (f : Frame K) (b : ℕ) (behind : List ℕ) → Fits f → readFrame size named (frameBytes image f ++ (b ∷ behind)) ≡ Err (Surplus (length (frameBytes image f)))
+
+  -- where the three numbers of the head are below 128 ^ a, 128 ^ b and 128 ^ c, the frame has at most a + b + c bytes and four for each number of the image
+  abbrev pub Frame-length : Type 0
+  Frame-length = (f : Frame K) (a b c : ℕ) → f .round .0 < 128 ^ suc a → f .sender .0 < 128 ^ suc b → f .missing .mask < 128 ^ suc c
+      → length (frameBytes image f) ≤ suc a + suc b + suc c + 4 * size

@@ -10,7 +10,9 @@ use Rattle.std.proofs.shelf.Digits.{digitsOf-step, length-digitsOf-le}
 use Rattle.std.proofs.shelf.Bits.{and-mask, or-shifted}
 use Rattle.std.proofs.shelf.Lists.{map-push, drop-set, drop-set-lt}
 use Rattle.std.proofs.shelf.Tests.{le-leb}
+use native.Mathlib.Nat.{pow-suc}
 use Rattle.numbers.specs.Numbers.{marked, written, fronted}
+use Rattle.numbers.specs.Theorems.{Number-length}
 
 -- one group more, at the end
 pub marked-step : (h : ℕ) → 0 < h → marked h ≡ marked (h / 128) ++ ((128 + h % 128) ∷ [])
@@ -25,6 +27,11 @@ length-marked k h small = omega (arith, length-map (digitsOf 128 h) (λ d. 128 +
 pub length-written : (n : ℕ) → length (written n) ≡ length (marked (n / 128)) + 1
 unfolding written
 length-written n = length-append (marked (n / 128)) (n % 128 ∷ [])
+
+pub number-length : Number-length
+number-length k n small =
+    let most = length-marked k (n / 128) (omega (arith, pow-suc 128 k)) in
+    (omega (arith, length-written n), omega (arith, length-written n))
 
 -- what the writer computes of a group
 pub last-byte : (n : ℕ) → bitAnd n 127 ≡ n % 128

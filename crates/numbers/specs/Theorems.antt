@@ -1,7 +1,7 @@
 -- What the numbers' bytes are for. Assumes nothing.
 use mathlib.Core.Path.{_≡_}
 use mathlib.Core.List.{List, _++_}
-use Prim.Native.Nat.{ℕ, _+_, _^_, _<_}
+use Prim.Native.Nat.{ℕ, suc, _+_, _^_, _<_, _≤_}
 use lib.ListN.{length, drop}
 use Rattle.std.specs.shelf.Lists.{All}
 use Rattle.std.specs.declared.result.Result.the-variants.{Ok}
@@ -17,3 +17,7 @@ Number-back = (n place : ℕ) (bytes behind : List ℕ) → n < 2 ^ 32 → drop 
 abbrev pub Number-only : Type 0
 Number-only = (bytes : List ℕ) (place : ℕ) (d : Decoded) → All (λ b. b < 256) bytes → readNumber bytes place ≡ Ok d
     → (d .value < 2 ^ 32) × (d .next ≡ place + length (written (d .value))) × (drop place bytes ≡ written (d .value) ++ drop (d .next) bytes)
+
+-- every number takes a byte, and one below 128 ^ k no more than k
+abbrev pub Number-length : Type 0
+Number-length = (k n : ℕ) → n < 128 ^ suc k → (1 ≤ length (written n)) × (length (written n) ≤ suc k)

@@ -1,5 +1,5 @@
 use mathlib.Core.Path.{refl}
-use Rattle.frames.proofs.Trips.{frame-back, frame-only, frame-number, frame-image, frame-surplus}
+use Rattle.frames.proofs.Trips.{frame-back, frame-only, frame-number, frame-image, frame-surplus, frame-length}
 use Rattle.frames.proofs.theorems.frames_stand.Needs as need
 
 pub returns : need.returns
@@ -13,4 +13,5 @@ returns g c =
       number = frame-number (k .size) (k .image) (k .named);
       image = frame-image (k .size) (k .image) (k .named);
       surplus = frame-surplus (k .size) (k .image) (k .named) (m .long) (m .small) (m .back);
+      len = frame-length (k .size) (k .image) (k .named) (m .long) (m .small) (m .back);
     }
