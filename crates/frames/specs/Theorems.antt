@@ -42,7 +42,7 @@ module _ {K : Type 0} (size : ℕ) (image : K → List ℕ) (named : List ℕ �
   abbrev pub Frame-surplus : Type 0
   Frame-surplus = (f : Frame K) (b : ℕ) (behind : List ℕ) → Fits f → readFrame size named (frameBytes image f ++ (b ∷ behind)) ≡ Err (Surplus (length (frameBytes image f)))
 
-  -- where the three numbers of the head are below 128 ^ a, 128 ^ b and 128 ^ c, the frame has at most a + b + c bytes and four for each number of the image
+  -- by how many groups of seven bits, at least one each, round, sender and set need at most: as many bytes, and four for each number of the image
   abbrev pub Frame-length : Type 0
   Frame-length = (f : Frame K) (a b c : ℕ) → f .round .0 < 128 ^ suc a → f .sender .0 < 128 ^ suc b → f .missing .mask < 128 ^ suc c
       → length (frameBytes image f) ≤ suc a + suc b + suc c + 4 * size

@@ -18,6 +18,6 @@ abbrev pub Number-only : Type 0
 Number-only = (bytes : List ℕ) (place : ℕ) (d : Decoded) → All (λ b. b < 256) bytes → readNumber bytes place ≡ Ok d
     → (d .value < 2 ^ 32) × (d .next ≡ place + length (written (d .value))) × (drop place bytes ≡ written (d .value) ++ drop (d .next) bytes)
 
--- every number takes a byte, and one below 128 ^ k no more than k
+-- every number takes a byte at least, and one below 128 ^ (k + 1) no more than k + 1
 abbrev pub Number-length : Type 0
 Number-length = (k n : ℕ) → n < 128 ^ suc k → (1 ≤ length (written n)) × (length (written n) ≤ suc k)

@@ -47,4 +47,4 @@ returns-in-Ok g c =
 pub returns-in-Err : need.returns-in-Err
 returns-in-Err g c =
     let is = judges g (need.at·returns-in-Err g c .After-from-image) ∙ ap (λ o. judged (c .args .at) o (c .loop-i .next)) (none-from-err _ Image (c .in-Err .field-0) (c .in-Err .ensures tt)) in
-    cc is
+    grind arith

@@ -18,7 +18,7 @@ loop-x-again g c d =
     let read = getD-read (c .args .proposals .now) (c .loop-x .x-index) (c .x-item .result) (c .loop-x-test .taken) (c .x-item .is) d in
     let first = c .first-of .ensures in
     let so-far = c .loop-x .inv d in
-    rw (add-one (c .loop-x .x-index)) (ap Some (cc))
+    rw (add-one (c .loop-x .x-index)) (ap Some (grind arith))
 
 pub returns : need.returns
 returns g c d =
