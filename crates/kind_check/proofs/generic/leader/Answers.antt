@@ -11,7 +11,7 @@ pub loop-x-preserved : goal.loop-x-preserved
 unfolding foremost
 loop-x-preserved g c d =
     let read = get_or_read c.args.proposals.now c.loop-x.x-index c.x-item.result c.loop-x-test.true c.x-item.is d in
-    let first = c.first-of.ensures in
+    let first = c.first_of.ensures in
     let so_far = c.loop-x.invariant d in
     rw (add-one c.loop-x.x-index) (ap Some (grind arith))
 

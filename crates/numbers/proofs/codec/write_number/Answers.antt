@@ -4,15 +4,15 @@ use Rattle.numbers.specs.Numbers.{marked, written}
 use Rattle.numbers.proofs.Groups.{length-written, length-marked_step, last_byte, marked_byte, place_last, place_more, placed_all}
 use Rattle.numbers.proofs.codec.write_number.Goals as goal
 
-pub overflow-sub-i : goal.overflow-sub-i
-overflow-sub-i c = omega (arith, length-written c.args.n)
+pub overflow_sub-i : goal.overflow_sub-i
+overflow_sub-i c = omega (arith, length-written c.args.n)
 
 pub bounds-out-i : goal.bounds-out-i
 bounds-out-i c = omega (arith, length-written c.args.n)
 
 pub loop-rest-init : goal.loop-rest-init
 loop-rest-init c =
-    let long : length (marked (c.args.n / 128)) ≡ c.number-len-len.result - 1 = omega (arith, length-written c.args.n) in (
+    let long : length (marked (c.args.n / 128)) ≡ c.number_len-len.result - 1 = omega (arith, length-written c.args.n) in (
       long,
       place_last c.args.n _ c.args.out.now _ long (omega (arith, length-written c.args.n)) (last_byte c.args.n),
       simp length-set (omega (arith, length-written c.args.n)),
@@ -24,8 +24,8 @@ down c =
     let more = length-marked_step c.loop-rest.rest (omega arith) in
     (omega (arith, c.loop-rest.invariant.0), omega (arith, c.loop-rest.invariant.2))
 
-pub overflow-sub-i-in-loop-rest : goal.overflow-sub-i-in-loop-rest
-overflow-sub-i-in-loop-rest c = omega (arith, c.loop-rest.invariant.0, length-marked_step c.loop-rest.rest (omega arith))
+pub overflow_sub-i-in-loop-rest : goal.overflow_sub-i-in-loop-rest
+overflow_sub-i-in-loop-rest c = omega (arith, c.loop-rest.invariant.0, length-marked_step c.loop-rest.rest (omega arith))
 
 pub bounds-out-i-in-loop-rest : goal.bounds-out-i-in-loop-rest
 bounds-out-i-in-loop-rest c = (down c).1

@@ -7,13 +7,13 @@ use Rattle.boxes.proofs.states.Listening.close.Goals.{After-count-2}
 -- a tally that is not refused: the boxes known missing are among those not heard, which are at most t
 tallied : (g : given.Over) (c : After-count-2 g) → c.count-2.result ≤ c.args.self.at.held.t
 tallied g c =
-    let s = c.is-subset.ensures in
-    let kept = c.if-not-is-subset.false in
+    let s = c.is_subset.ensures in
+    let kept = c.if-not-is_subset.false in
     let inside = inside_counts c.args.self.notes.known c.unheard-unheard.result (grind arith) in
     omega arith
 
-pub overflow-sub-round : goal.overflow-sub-round
-overflow-sub-round g c = omega (arith, tallied g (goal.at.overflow-sub-round g c).After-count-2)
+pub overflow_sub-round : goal.overflow_sub-round
+overflow_sub-round g c = omega (arith, tallied g (goal.at.overflow_sub-round g c).After-count-2)
 
 pub invariant-of-result : goal.invariant-of-result
 invariant-of-result g c =

@@ -5,12 +5,12 @@ use Rattle.sets.proofs.Bits.{bit-mask_of}
 use Rattle.boxes.proofs.Faulted.{refused_by_box}
 use Rattle.boxes.proofs.states.Listening.hear.Goals as goal
 
-pub returns-in-err-frame-2 : goal.returns-in-err-frame-2
-returns-in-err-frame-2 g c =
-    let p = err_from_is_err_and c.from-residual-in-err-frame-2.result c.from-residual-in-err-frame-2.ensures.1 in
+pub returns-in_err-frame-2 : goal.returns-in_err-frame-2
+returns-in_err-frame-2 g c =
+    let p = err_from_is_err_and c.from-residual-in_err-frame-2.result c.from-residual-in_err-frame-2.ensures.1 in
     let b = c.args.self.now.at.held in
     let m = c.args.self.now.notes in
-    let h = refused_by_box g.K.Kind.leads g.K.Kind.size g.K.Kind.named b m c.args.bytes.now c.in-ok-frame.frame c.in-err-frame-2.field-0.0 c.in-ok-frame.ensures c.in-err-frame-2.ensures in
+    let h = refused_by_box g.K.Kind.leads g.K.Kind.size g.K.Kind.named b m c.args.bytes.now c.in_ok-frame.frame c.in_err-frame-2.field-0.0 c.in_ok-frame.ensures c.in_err-frame-2.ensures in
     rw h (rw (p.1, p.2) record { told = refl; at = refl; notes = refl })
 
 pub invariant-of-self : goal.invariant-of-self

@@ -8,4 +8,4 @@ returns g c =
     let company : ℕ → Bool = λ i. ltb i c.args.self.at.held.n in
     let heard = member c.args.self.notes.heard in
     c.difference.ensures
-    ∙ set_ext _ (λ i. company i && not (heard i)) (λ i l. ap (λ z. z && not (heard i)) (member_is company c.«all-below».result c.«all-below».ensures i l))
+    ∙ set_ext _ (λ i. company i && not (heard i)) (λ i l. ap (λ z. z && not (heard i)) (member_is company c.«all_below».result c.«all_below».ensures i l))

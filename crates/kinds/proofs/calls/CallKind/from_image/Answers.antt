@@ -10,5 +10,5 @@ pub returns : goal.returns
 returns c =
     let ns = c.args.numbers.now in
     let two : length ns ≡ 2 = omega arith in
-    let piece = some_from_ok (piece_named (take (length ns - 1) (drop 1 ns))) Image c.in-ok-piece.piece c.in-ok-piece.ensures in
+    let piece = some_from_ok (piece_named (take (length ns - 1) (drop 1 ns))) Image c.in_ok-piece.piece c.in_ok-piece.ensures in
     sym (ap (λ o. ok_or o Image) (named_two ns (length ns - 1) two refl ∙ ap (call_at (get_or ns 0 0)) piece ∙ call_at_lem _))
