@@ -23,7 +23,7 @@ loop-i-preserved g c =
             | then-first w' ↦ ap (λ z. z.now) w'.write-is ∙ sym (ap (λ t. cond t [] (codes ", ")) w'.if-first.true)
             | else-first w' ↦ ap (λ z. z.now) w'.write-is ∙ sym (ap (λ t. cond t [] (codes ", ")) w'.if-first.false)
           ])
-          (λ p. w.in_ok-write-2.ensures.shows p refl) w.first-is w.f-is
+          (λ p. w.in_ok-write-2.ensures.writes p refl) w.first-is w.f-is
       | else-contains w ↦
           listed_skip g.W.Write.write_str_gives P c.write.new.self i c.loop-i.first c.loop-i.f c.loop-i.invariant c.if-contains.first c.if-contains.f (sym w.if-contains.ensures) w.first-is w.f-is
     ]
@@ -33,6 +33,6 @@ returns-clause-writes g c p ok =
     let took = g.W.Write.write_str_gives in
     let P = member c.args.self.now in
     let all : c.loop-i.i-counter ≡ 32 = omega arith in
-    let brace = c.in_ok-write.ensures.shows p refl in
+    let brace = c.in_ok-write.ensures.writes p refl in
     let boxes = has_written_of_eq took _ _ (listed P 32) _ (ap (listed P) all) (c.loop-i.invariant.1 brace.plain) in
     has_written_append took _ (codes "{") _ _ _ brace (has_written_append took _ (listed P 32) _ (codes "}") _ boxes (c.write-2.ensures.writes boxes.plain ok))
