@@ -15,7 +15,7 @@ loop-i-init g c = (refl, rw (sub-zero c.image_len-count.result) (behind-nil (rea
 
 pub returns-in_err-number : goal.returns-in_err-number
 returns-in_err-number g c =
-    let p = err_from_is_err_and c.from-residual.result c.from-residual.ensures.1 in
+    let p = err_from_is_err_and c.from_residual.result c.from_residual.ensures.1 in
     let stop = image_stop c.args.bytes.now c.loop-i.next (take c.loop-i.i c.loop-i.image) (c.image_len-count.result - c.loop-i.i) c.in_err-number.field-0.0 (omega arith) (sym c.in_err-number.ensures) in
     p.1 ∙ ap Err p.2 ∙ sym (proposal_stop g.K.Kind.size g.K.Kind.named c.args.bytes.now c.args.at c.image_len-count.result c.image_len-count.ensures _ (sym c.loop-i.invariant.1 ∙ stop))
 

@@ -7,7 +7,7 @@ use Rattle.boxes.proofs.states.Listening.hear.Goals as goal
 
 pub returns-in_err-frame-2 : goal.returns-in_err-frame-2
 returns-in_err-frame-2 g c =
-    let p = err_from_is_err_and c.from-residual-in_err-frame-2.result c.from-residual-in_err-frame-2.ensures.1 in
+    let p = err_from_is_err_and c.from_residual-in_err-frame-2.result c.from_residual-in_err-frame-2.ensures.1 in
     let b = c.args.self.now.at.held in
     let m = c.args.self.now.notes in
     let h = refused_by_box g.K.Kind.leads g.K.Kind.size g.K.Kind.named b m c.args.bytes.now c.in_ok-frame.frame c.in_err-frame-2.field-0.0 c.in_ok-frame.ensures c.in_err-frame-2.ensures in
