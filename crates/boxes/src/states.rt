@@ -1,9 +1,10 @@
 // The states of a box, as types: at rest, listening, and what closing a round leaves. What every box keeps stands in its type.
-ghost use Rattle.std.specs.Prelude.{◌≡◌, ◌+◌, ◌^◌, ◌<◌, ◌≤◌, true, false};
+ghost use Rattle.std.specs.Prelude.{◌≡◌, ◌+◌, ◌^◌, ◌<◌, ◌≤◌, true, false, ⊤};
 ghost use Rattle.sets.specs.Tests.{count};
 ghost use Rattle.sets.specs.Masks.{member};
 
 use sets::{BoxNumber, BoxSet, RoundNumber};
+use std::alloc::AllocError;
 
 // The seven values that a box holds.
 #[derive(Clone, Copy)]
@@ -23,7 +24,7 @@ pub struct Held<K> {
 }
 
 // A box between rounds.
-#[derive(Clone, Copy)]
+#[derive(Copy)]
 pub struct Resting<K> {
     pub(crate) held: Held<K>,
     ghost several: { 2 ≤ held.n },
@@ -38,6 +39,16 @@ pub struct Resting<K> {
     ghost due: { held.horizon.0 ≤ held.t + 1 },
 }
 
+impl<K: Copy> Clone for Resting<K> {
+    ghost is_clone = { λ b c. c ≡ b };
+
+    ghost is_infallible = { λ _. ⊤ };
+
+    fn clone(&self) -> Result<Self, AllocError> {
+        Ok(*self)
+    }
+}
+
 // What a box has noted of the round that it listens to.
 #[derive(Clone, Copy)]
 pub struct Notes<K> {
@@ -50,15 +61,25 @@ pub struct Notes<K> {
 }
 
 // A box that has opened a round and hears frames.
-#[derive(Clone, Copy)]
+#[derive(Copy)]
 pub struct Listening<K> {
     pub(crate) at: Resting<K>,
     pub(crate) notes: Notes<K>,
     ghost itself: { member notes.heard at.held.number.0 ≡ true },
 }
 
+impl<K: Copy> Clone for Listening<K> {
+    ghost is_clone = { λ b c. c ≡ b };
+
+    ghost is_infallible = { λ _. ⊤ };
+
+    fn clone(&self) -> Result<Self, AllocError> {
+        Ok(*self)
+    }
+}
+
 // What closing a round leaves: a box at rest, or the round in which it rings and the proposal on which it does.
-#[derive(Clone, Copy)]
+#[derive_where(Clone, Copy; K: Copy)]
 pub enum Closed<K> {
     Rests(Resting<K>),
     Rings { round: RoundNumber, proposal: K },

@@ -15,13 +15,22 @@ tallied g c =
 pub overflow_sub-round : goal.overflow_sub-round
 overflow_sub-round g c = omega (arith, tallied g (goal.at.overflow_sub-round g c).After-count-2)
 
-pub invariant-of-result : goal.invariant-of-result
-invariant-of-result g c =
+pub invariant_of-result : goal.invariant_of-result
+invariant_of-result g c =
     let l = c.args.self in
-    let few = tallied g (goal.at.invariant-of-result g c).After-count-2 in
+    let few = tallied g (goal.at.invariant_of-result g c).After-count-2 in
     let round : c.round-round.result.0 ≡ l.at.held.closed + 1 = ap (λ z. z.0) c.round-round.ensures in
     let u = c.unheard-unheard.result in
-    let e = c.unheard-unheard.ensures in (
-      l.at.several,
-      (l.at.few, (l.at.fallible, (l.at.survived, (l.at.placed, (unheard_below l u e, (unheard_own l u e, (omega arith, (omega arith, (omega arith, tt))))))))),
-    )
+    let e = c.unheard-unheard.ensures in
+    record {
+      several = l.at.several;
+      few = l.at.few;
+      fallible = l.at.fallible;
+      survived = l.at.survived;
+      placed = l.at.placed;
+      within = unheard_below l u e;
+      present = unheard_own l u e;
+      sparse = omega arith;
+      ahead = omega arith;
+      due = omega arith;
+    }

@@ -13,9 +13,9 @@ returns-in_err-frame-2 g c =
     let h = refused_by_box g.K.Kind.leads g.K.Kind.size g.K.Kind.named b m c.args.bytes.now c.in_ok-frame.frame c.in_err-frame-2.field-0.0 c.in_ok-frame.ensures c.in_err-frame-2.ensures in
     rw h (rw (p.1, p.2) record { told = refl; at = refl; notes = refl })
 
-pub invariant-of-self : goal.invariant-of-self
-invariant-of-self g c =
+pub invariant_of-self : goal.invariant_of-self
+invariant_of-self g c =
     let l = c.args.self.now in
     let own = l.itself in
     let room : l.at.held.number.0 < 32 = omega (arith, l.at.placed, l.at.few) in
-    (grind (arith, nat_tests, bit-mask_of), tt)
+    record { itself = grind (arith, nat_tests, bit-mask_of) }

@@ -3,5 +3,5 @@ use Rattle.std.proofs.lemmas.Bool.Decides.{nat_tests}
 use Rattle.sets.proofs.Bits.{bit-mask_of}
 use Rattle.boxes.proofs.states.Resting.open.Goals as goal
 
-pub invariant-of-result : goal.invariant-of-result
-invariant-of-result g c = let e = c.only.ensures in (grind (arith, nat_tests, bit-mask_of), tt)
+pub invariant_of-result : goal.invariant_of-result
+invariant_of-result g c = let e = c.only.ensures in record { itself = grind (arith, nat_tests, bit-mask_of) }
