@@ -1,4 +1,6 @@
 // Kinds of proposal: what a proposal is to the layers above, and the two kinds of the product.
+#![tactic(auto)]
+
 mod calls;
 mod kind;
 mod pieces;

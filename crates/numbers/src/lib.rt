@@ -1,4 +1,6 @@
 // Numbers below 2^32 as bytes, and the refusals of all layers.
+#![tactic(auto)]
+
 mod codec;
 mod refusal;
 mod theorems;
