@@ -91,8 +91,8 @@ impl<K: Kind> Resting<K> {
     // Writes the frame of the next round to the front of `out` and tells its length; where there is too little room, nothing
     // is touched.
     pub fn compose(self, out: &mut [u8]) -> Result<usize, Refusal>
-        ensures told { result ≡ room_for (frame_bytes K.Kind.image (frame_of self.held)) out.old }
-        ensures bytes { out.new ≡ fronted (frame_bytes K.Kind.image (frame_of self.held)) out.old }
+        ensures told { result ≡ room_for (frame_bytes K.image (frame_of self.held)) out.old }
+        ensures bytes { out.new ≡ fronted (frame_bytes K.image (frame_of self.held)) out.old }
     {
         write_frame(
             Frame {

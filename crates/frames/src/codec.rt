@@ -12,7 +12,7 @@ use sets::{BoxNumber, BoxSet, RoundNumber};
 
 // The numbers of a frame, in front of some places that are not used, and how many they are.
 fn frame_numbers<K: Kind>(frame: Frame<K>) -> ([u32; 7], usize)
-    ensures numbers { take (result.1 - 0) result.0 ≡ frame_numbers K.Kind.image frame }
+    ensures numbers { take (result.1 - 0) result.0 ≡ frame_numbers K.image frame }
     ensures places { (length result.0 ≡ 7) × (result.1 ≤ 7) }
 {
     let Frame {
@@ -31,8 +31,8 @@ fn frame_numbers<K: Kind>(frame: Frame<K>) -> ([u32; 7], usize)
 
 // Writes the frame to the front of `out` and tells its length; where there is too little room, nothing is touched.
 pub fn write_frame<K: Kind>(frame: Frame<K>, out: &mut [u8]) -> Result<usize, Refusal>
-    ensures told { result ≡ room_for (frame_bytes K.Kind.image frame) out.old }
-    ensures bytes { out.new ≡ fronted (frame_bytes K.Kind.image frame) out.old }
+    ensures told { result ≡ room_for (frame_bytes K.image frame) out.old }
+    ensures bytes { out.new ≡ fronted (frame_bytes K.image frame) out.old }
 {
     let (numbers, count) = frame_numbers(frame);
     write_numbers(&numbers[0..count], out)
@@ -73,7 +73,7 @@ fn read_head(bytes: &[u8]) -> Result<Head, FrameFault>
 
 // The proposal whose image begins at a place, and the place behind it.
 fn read_proposal<K: Kind>(bytes: &[u8], at: usize) -> Result<(K, usize), FrameFault>
-    ensures { result ≡ read_proposal K.Kind.size K.Kind.named bytes.now at }
+    ensures { result ≡ read_proposal K.size K.named bytes.now at }
 {
     let mut image = [0; 4];
     let count = K::image_len();
@@ -91,7 +91,7 @@ fn read_proposal<K: Kind>(bytes: &[u8], at: usize) -> Result<(K, usize), FrameFa
 
 // The frame that the bytes hold, all of them.
 pub fn read_frame<K: Kind>(bytes: &[u8]) -> Result<Frame<K>, FrameFault>
-    ensures { result ≡ read_frame K.Kind.size K.Kind.named bytes.now }
+    ensures { result ≡ read_frame K.size K.named bytes.now }
 {
     let head = read_head(bytes)?;
     let (estimate, end) = read_proposal::<K>(bytes, head.next)?;

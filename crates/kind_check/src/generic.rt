@@ -11,7 +11,7 @@ use numbers::Refusal;
 
 // The one that goes first of a proposal and of the first so far.
 fn first_of<K: Kind>(so_far: Option<K>, x: K) -> K
-    ensures { result ≡ sooner K.Kind.leads so_far x }
+    ensures { result ≡ sooner K.leads so_far x }
 {
     match so_far {
         None => x,
@@ -21,7 +21,7 @@ fn first_of<K: Kind>(so_far: Option<K>, x: K) -> K
 
 // The proposal that goes first.
 pub fn leader<K: Kind>(proposals: &[K]) -> Option<K>
-    ensures { (d : K) → result ≡ foremost K.Kind.leads (λ _. true) (λ k. slice_index_or proposals.now k d) (length proposals.now) }
+    ensures { (d : K) → result ≡ foremost K.leads (λ _. true) (λ k. slice_index_or proposals.now k d) (length proposals.now) }
 {
     let mut first = None;
     for x in proposals {
@@ -32,8 +32,8 @@ pub fn leader<K: Kind>(proposals: &[K]) -> Option<K>
 
 // Writes a frame and reads it again: the same frame, or a refusal for want of room.
 pub fn echo<K: Kind>(frame: Frame<K>, out: &mut [u8]) -> Result<Frame<K>, Refusal>
-    ensures told { result ≡ (if nat_le (length (frame_bytes K.Kind.image frame)) (length out.old) then Ok frame else Err Narrow) }
-    ensures bytes { out.new ≡ fronted (frame_bytes K.Kind.image frame) out.old }
+    ensures told { result ≡ (if nat_le (length (frame_bytes K.image frame)) (length out.old) then Ok frame else Err Narrow) }
+    ensures bytes { out.new ≡ fronted (frame_bytes K.image frame) out.old }
 {
     let _ = frames_stand::<K>();
     let len = write_frame(frame, out)?;

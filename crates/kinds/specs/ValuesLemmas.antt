@@ -1,14 +1,17 @@
--- Proposals with equal numbers are equal: their ghost fields have one proof each. Assumes nothing.
-use Rattle.std.specs.Prelude.{◌≡◌, ℕ, ◌-◌, ◌≤◌, List, [], ◌∷◌, length, take, drop, Some, None, Ok, Err, Option, slice_index, refl}
-use Rattle.std.proofs.Common.{ap, arith}
+-- Proposals with equal numbers are equal, since their ghost fields have one proof each; and what follows for the two kinds.
+-- Assumes nothing.
+use Rattle.std.specs.Prelude.{◌≡◌, ℕ, ◌-◌, ◌≤◌, true, List, [], ◌∷◌, length, take, drop, Some, None, Ok, Err, Option, slice_index, refl}
+use Rattle.std.proofs.Common.{ap, ◌∙◌, arith}
+use Rattle.std.proofs.lemmas.Bool.{leb-true}
+use Rattle.std.proofs.lemmas.Bool.Decides.{nat_tests}
 use mathlib.Core.HLevel.{is_prop→PathP}
 use Rattle.std.proofs.Math.Bridge.{le_prop}
 use Rattle.std.proofs.Math.Decide.{dec_le}
 use Rattle.std.specs.Option.{ok_or}
 use Rattle.kinds.specs.declared.proposals.Piece.{Piece}
 use Rattle.kinds.specs.declared.proposals.Call.{Call}
-use Rattle.kinds.specs.Pieces.{piece_by, piece_at, piece_named}
-use Rattle.kinds.specs.Calls.{call_by, call_at, call_named}
+use Rattle.kinds.specs.Pieces.{piece_by, piece_at, piece_named, piece_leads}
+use Rattle.kinds.specs.Calls.{call_by, call_at, call_image, call_named, call_leads}
 
 pub piece_path : (x y : Piece) → x.number ≡ y.number → x ≡ y
 piece_path x y p = λ i. record { number = p i; most = is_prop→PathP (λ j. p j ≤ 16383) (λ j. le_prop) x.most y.most i }
@@ -35,6 +38,19 @@ call_by_lem x (no a) b = absurd (a x.least)
 
 pub call_at_lem : (x : Call) → call_at x.rank (Some x.piece) ≡ Some x
 call_at_lem x = call_by_lem x (dec_le 1 x.rank) (dec_le x.rank 9)
+
+-- the laws that take more than a search
+pub call_back : (x : Call) → call_named (call_image x) ≡ Some x
+call_back x = ap (call_at x.rank) (piece_at_lem x.piece) ∙ call_at_lem x
+
+pub piece_antisymmetric : (x y : Piece) → piece_leads x y ≡ true → piece_leads y x ≡ true → x ≡ y
+piece_antisymmetric x y a b = piece_path x y (omega (arith, leb-true x.number y.number a, leb-true y.number x.number b))
+
+pub call_antisymmetric : (x y : Call) → call_leads x y ≡ true → call_leads y x ≡ true → x ≡ y
+call_antisymmetric x y a b =
+    let r : x.rank ≡ y.rank = grind (arith, nat_tests) in
+    let p : x.piece.number ≡ y.piece.number = grind (arith, nat_tests) in
+    call_path x y r (piece_path _ _ p)
 
 -- a list of one number, and a list of a rank and what follows
 pub named_one : (ns : List ℕ) → length ns ≡ 1 → piece_named ns ≡ piece_at (slice_index ns 0)

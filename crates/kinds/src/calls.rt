@@ -1,11 +1,10 @@
 // Calls, made and compared.
 ghost use Rattle.std.specs.Prelude.{◌≡◌, Some};
-ghost use Rattle.std.proofs.Common.{ap, ◌∙◌, arith, rules};
+ghost use Rattle.std.proofs.Common.{rules};
 ghost use Rattle.std.specs.Option.{ok_or};
 ghost use Rattle.numbers.specs.declared.refusal.Refusal.TheVariants.{Image};
 ghost use Rattle.kinds.specs.Calls.{call_at, call_image, call_named, call_leads};
-ghost use Rattle.kinds.specs.ValuesLemmas.{piece_at_lem, call_at_lem, piece_path, call_path};
-ghost use Rattle.std.proofs.lemmas.Bool.Decides.{nat_tests};
+ghost use Rattle.kinds.specs.ValuesLemmas.{call_back, call_antisymmetric};
 
 use super::kind::Kind;
 use super::proposals::{Call, Piece};
@@ -47,24 +46,21 @@ impl Kind for Call {
 
     ghost leads = { call_leads };
 
-    ghost sized = { first_of (Prim.search rules, Prim.grind (arith, Self.row.coded.inj)) };
+    ghost sized = { Prim.search rules };
 
-    ghost long = { first_of (Prim.search rules, Prim.grind (arith, Self.row.coded.inj)) };
+    ghost long = { Prim.search rules };
 
-    ghost small = { first_of (Prim.search rules, Prim.grind (arith, Self.row.coded.inj)) };
+    ghost small = { Prim.search rules };
 
-    ghost back = { λ x. ap (call_at x.rank) (piece_at_lem x.piece) ∙ call_at_lem x };
+    ghost back = { call_back };
 
-    ghost only = { first_of (Prim.search rules, Prim.grind (arith, Self.row.coded.inj)) };
+    ghost only = { Prim.search rules };
 
-    ghost total = { first_of (Prim.search rules, Prim.grind (arith, Self.row.coded.inj)) };
+    ghost total = { Prim.search rules };
 
-    ghost transitive = { first_of (Prim.search rules, Prim.grind (arith, Self.row.coded.inj)) };
+    ghost transitive = { Prim.search rules };
 
-    ghost antisymmetric = { λ x y a b.
-        let r : x.rank ≡ y.rank = Prim.grind (arith, nat_tests) in
-        let p : x.piece.number ≡ y.piece.number = Prim.grind (arith, nat_tests) in
-        call_path x y r (piece_path _ _ p) };
+    ghost antisymmetric = { call_antisymmetric };
 
     fn image_len() -> usize {
         2

@@ -3,9 +3,8 @@ ghost use Rattle.std.specs.Prelude.{◌≡◌};
 ghost use Rattle.std.specs.Option.{ok_or};
 ghost use Rattle.numbers.specs.declared.refusal.Refusal.TheVariants.{Image};
 ghost use Rattle.kinds.specs.Pieces.{piece_at, piece_image, piece_named, piece_leads};
-ghost use Rattle.kinds.specs.ValuesLemmas.{piece_at_lem, piece_path};
-ghost use Rattle.std.proofs.Common.{arith, rules};
-ghost use Rattle.std.proofs.lemmas.Bool.{leb-true};
+ghost use Rattle.kinds.specs.ValuesLemmas.{piece_at_lem, piece_antisymmetric};
+ghost use Rattle.std.proofs.Common.{rules};
 
 use super::kind::Kind;
 use super::proposals::Piece;
@@ -39,21 +38,21 @@ impl Kind for Piece {
 
     ghost leads = { piece_leads };
 
-    ghost sized = { first_of (Prim.search rules, Prim.grind (arith, Self.row.coded.inj)) };
+    ghost sized = { Prim.search rules };
 
-    ghost long = { first_of (Prim.search rules, Prim.grind (arith, Self.row.coded.inj)) };
+    ghost long = { Prim.search rules };
 
-    ghost small = { first_of (Prim.search rules, Prim.grind (arith, Self.row.coded.inj)) };
+    ghost small = { Prim.search rules };
 
-    ghost back = { λ x. piece_at_lem x };
+    ghost back = { piece_at_lem };
 
-    ghost only = { first_of (Prim.search rules, Prim.grind (arith, Self.row.coded.inj)) };
+    ghost only = { Prim.search rules };
 
-    ghost total = { first_of (Prim.search rules, Prim.grind (arith, Self.row.coded.inj)) };
+    ghost total = { Prim.search rules };
 
-    ghost transitive = { first_of (Prim.search rules, Prim.grind (arith, Self.row.coded.inj)) };
+    ghost transitive = { Prim.search rules };
 
-    ghost antisymmetric = { λ x y a b. piece_path x y (omega (arith, leb-true x.number y.number a, leb-true y.number x.number b)) };
+    ghost antisymmetric = { piece_antisymmetric };
 
     fn image_len() -> usize {
         1

@@ -7,7 +7,7 @@ use super::kind::Kind;
 // Proposals with the same image are the same.
 pub fn image_determines<K: Kind>() -> u8
     ensures zero { result ≡ 0 }
-    ensures same { (x y : K) → K.Kind.image x ≡ K.Kind.image y → x ≡ y }
+    ensures same { (x y : K) → K.image x ≡ K.image y → x ≡ y }
 {
     0
 }
@@ -15,8 +15,8 @@ pub fn image_determines<K: Kind>() -> u8
 // The foremost of some proposals is one of them and may go first of each, and no other is both.
 pub fn order_stands<K: Kind>() -> u8
     ensures zero { result ≡ 0 }
-    ensures leads { ForemostLeads K.Kind.leads }
-    ensures only { ForemostOnly K.Kind.leads }
+    ensures leads { ForemostLeads K.leads }
+    ensures only { ForemostOnly K.leads }
 {
     0
 }
