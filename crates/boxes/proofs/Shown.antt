@@ -2,13 +2,12 @@
 use Rattle.std.proofs.Common.{◌≡◌, ℕ, ◌<◌, Bool, true, false, cond, not, ◌&&◌, ◌||◌, eqb, ltb, ◌⊎◌, is_some, Some, None, Option, unwrap_or, sym, refl, ap, ◌∙◌, inl, inr, ⊎_elim, arith}
 use Rattle.std.specs.Option.{option_or}
 use Rattle.std.proofs.lemmas.Bool.{eqb-true, eq-eqb, or_cases}
-use Rattle.std.proofs.lemmas.Bool.Decides.{nat_tests}
 use Rattle.std.specs.Result.{result_map_both}
 use Rattle.sets.specs.Tests.{any}
 use Rattle.sets.specs.Masks.{member, set_of}
 use Rattle.sets.proofs.Bits.{mask_of-bit}
 use Rattle.sets.proofs.Counts.{any_ext, any-or, any_point}
-use Rattle.kinds.specs.Orders.{sooner, foremost}
+use Rattle.kinds.specs.Orders.{sooner}
 use Rattle.kinds.proofs.Firsts.{foremost_only, foremost_more}
 use Rattle.frames.specs.declared.frame.Frame.{Frame}
 use Rattle.boxes.specs.declared.states.Notes.{Notes}

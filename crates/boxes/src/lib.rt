@@ -1,4 +1,6 @@
 // The box: what it holds between rounds, what it sends, and how it hears and closes a round.
+#![tactic(auto)]
+
 mod fault;
 mod listening;
 mod resting;

@@ -1,3 +1,5 @@
+#![tactic(auto)]
+
 // Tests of numbers and frames on worked examples, in bytes.
 #[cfg(test)]
 mod frame_cases;

@@ -1,4 +1,6 @@
 // Frames: what a box sends in a round, as bytes.
+#![tactic(auto)]
+
 mod codec;
 mod fault;
 mod frame;

@@ -1,5 +1,7 @@
 // Shows the frame of pieces on standard input: its fields, one to a line, and the bytes that it is written as; or why it
 // is refused.
+#![tactic(auto)]
+
 use frames::{Frame, FrameFault, read_frame, write_frame};
 use kinds::Piece;
 use std::io;

@@ -1,5 +1,7 @@
 // Three boxes run by hand, step by step. Box 2 loses power while it sends in round 1: only box 0 hears it. The others go on
 // until they ring.
+#![tactic(auto)]
+
 use boxes::{BoxFault, Closed, Listening, Resting};
 use kinds::Piece;
 use numbers::Refusal;
