@@ -1,7 +1,7 @@
 -- What holds of every box, for every kind of proposal. Assumes nothing.
 use Rattle.std.specs.Prelude.{◌≡◌, ℕ, ◌≤◌, Bool, List, [], ◌∷◌, length, Some, Option}
 use Rattle.std.specs.Result.{result_map_both}
-use Rattle.std.specs.List.{ContainsAt as Has}
+use Rattle.std.specs.List.{ContainsAt}
 use Rattle.numbers.specs.declared.refusal.Refusal.TheVariants as refusal
 use Rattle.numbers.specs.Refusals.{unless}
 use Rattle.sets.specs.Masks.{member}
@@ -31,8 +31,8 @@ module _ {K : Type 0} (size : ℕ) (image : K → List ℕ) (named : List ℕ �
   -- where no box speaks with two voices, the order and number of tellings does not count
   abbrev pub OrderFree : Type 0
   OrderFree = (b : Resting K) (told again : List (List ℕ))
-      → ((bytes : List ℕ) → (Has told bytes → Has again bytes) × (Has again bytes → Has told bytes))
-      → ((q : ℕ) (x y : List ℕ) (f g : Frame K) → Has told x → Has told y → voice size named b.held q x ≡ Some f → voice size named b.held q y ≡ Some g → f ≡ g)
+      → ((bytes : List ℕ) → (ContainsAt told bytes → ContainsAt again bytes) × (ContainsAt again bytes → ContainsAt told bytes))
+      → ((q : ℕ) (x y : List ℕ) (f g : Frame K) → ContainsAt told x → ContainsAt told y → voice size named b.held q x ≡ Some f → voice size named b.held q y ≡ Some g → f ≡ g)
       → notes_after size named b.held leads (open_notes b.held) told ≡ notes_after size named b.held leads (open_notes b.held) again
 
   -- what a box composes, another of its company in the same round notes as that frame, unless it has heard the sender, misses it

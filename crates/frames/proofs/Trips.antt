@@ -1,6 +1,6 @@
 -- A frame that is written reads back, and nothing else reads so. Assumes nothing.
 use Rattle.std.proofs.Common.{◌≡◌, ℕ, zero, suc, ◌+◌, ◌*◌, ◌^◌, ◌<◌, ◌≤◌, Bool, true, false, cond, ltb, List, [], ◌∷◌, ◌++◌, length, drop, Some, None, Ok, Err, Option, Result, sym, refl, ap, ◌∙◌, append_assoc, append-nil, arith, length-append}
-use Rattle.std.specs.List.{AllByRecursion as All}
+use Rattle.std.specs.List.{AllByRecursion}
 use Rattle.std.proofs.lemmas.List.{drop_all, drop_at, drop-drop}
 use Rattle.std.proofs.lemmas.Bool.{lt-ltb, le-ltb, ltb-false, cond-true, cond-false}
 use Rattle.numbers.specs.declared.codec.Decoded.{Decoded}
@@ -39,7 +39,7 @@ length-nil = ap length written_all-nil
 first_of : (bytes : List ℕ) (place n : ℕ) (ns behind : List ℕ) → drop place bytes ≡ written_all (n ∷ ns) ++ behind → drop place bytes ≡ written n ++ (written_all ns ++ behind)
 first_of bytes place n ns behind is = is ∙ ap (λ l. l ++ behind) (written_all-cons n ns) ∙ append_assoc (written n) (written_all ns) behind
 
-image_back : (bytes ns behind : List ℕ) (place : ℕ) → All (λ n. n < 2 ^ 32) ns → drop place bytes ≡ written_all ns ++ behind
+image_back : (bytes ns behind : List ℕ) (place : ℕ) → AllByRecursion (λ n. n < 2 ^ 32) ns → drop place bytes ≡ written_all ns ++ behind
     → read_image bytes (length ns) place ≡ Ok (ns, place + length (written_all ns))
 unfolding read_image
 image_back bytes [] behind place small is = let e : place ≡ place + length (written_all []) = omega (arith, length-nil) in ap (λ p. Ok ([], p)) e
@@ -71,13 +71,13 @@ next_inv : {X Y D E : Type 0} (up : D → E) (r : Result X D) (go : X → Result
 next_inv up (Ok x) go y e = (x, refl, e)
 next_inv up (Err d) go y e = let z : ◌≡◌ {A = ℕ} 0 1 = cc in absurd (omega arith)
 
-field_only : (bytes : List ℕ) (place : ℕ) (f : Field) (d : Decoded) → All (λ b. b < 256) bytes → read_field f bytes place ≡ Ok d → drop place bytes ≡ written d.value ++ drop d.next bytes
+field_only : (bytes : List ℕ) (place : ℕ) (f : Field) (d : Decoded) → AllByRecursion (λ b. b < 256) bytes → read_field f bytes place ≡ Ok d → drop place bytes ≡ written d.value ++ drop d.next bytes
 field_only bytes place f d all e =
     let p = next_inv (in_field f) (read_number bytes place) (λ u. Ok u) d e in
     let same : p.0 ≡ d = let q = p.2 in cc in
     (number_only bytes place d all (p.1 ∙ ap Ok same)).2
 
-image_only : (bytes : List ℕ) (size place : ℕ) (p : List ℕ × ℕ) → All (λ b. b < 256) bytes → read_image bytes size place ≡ Ok p → drop place bytes ≡ written_all p.0 ++ drop p.1 bytes
+image_only : (bytes : List ℕ) (size place : ℕ) (p : List ℕ × ℕ) → AllByRecursion (λ b. b < 256) bytes → read_image bytes size place ≡ Ok p → drop place bytes ≡ written_all p.0 ++ drop p.1 bytes
 unfolding read_image
 image_only bytes zero place p all e =
     let same : ([], place) ≡ p = cc in
@@ -91,7 +91,7 @@ image_only bytes (suc size) place p all e =
     here ∙ ap (λ l. written q.0.value ++ l) on ∙ sym (append_assoc (written q.0.value) (written_all t.0.0) (drop t.0.1 bytes))
     ∙ ap (λ l. l ++ drop t.0.1 bytes) (sym (written_all-cons q.0.value t.0.0)) ∙ ap (λ (q : List ℕ × ℕ). written_all q.0 ++ drop q.1 bytes) same
 
-head_only : (bytes : List ℕ) (h : Head) → All (λ b. b < 256) bytes → read_head bytes ≡ Ok h
+head_only : (bytes : List ℕ) (h : Head) → AllByRecursion (λ b. b < 256) bytes → read_head bytes ≡ Ok h
     → bytes ≡ written h.round.0 ++ (written h.sender.0 ++ (written h.missing.mask ++ drop h.next bytes))
 unfolding read_head
 head_only bytes h all e =
@@ -125,7 +125,7 @@ length_fields : (r s m : ℕ) (ns : List ℕ) → length (written_all (r ∷ s �
 length_fields r s m ns = ap length (written_all-append (r ∷ s ∷ m ∷ []) ns) ∙ length-append (written_all (r ∷ s ∷ m ∷ [])) (written_all ns)
 
 -- such bytes are judged by what the image names and by what follows
-module _ {K : Type 0} (size : ℕ) (named : List ℕ → Option K) (r s m : ℕ) (ns behind : List ℕ) (all : All (λ n. n < 2 ^ 32) (r ∷ s ∷ m ∷ ns)) (long : length ns ≡ size) where
+module _ {K : Type 0} (size : ℕ) (named : List ℕ → Option K) (r s m : ℕ) (ns behind : List ℕ) (all : AllByRecursion (λ n. n < 2 ^ 32) (r ∷ s ∷ m ∷ ns)) (long : length ns ≡ size) where
   judges : (k : ℕ) × (read_head (written_all (r ∷ s ∷ m ∷ ns) ++ behind) ≡ Ok (record { round = record { 0 = r }; sender = record { 0 = s }; missing = record { mask = m }; next = k }))
       × (read_proposal size named (written_all (r ∷ s ∷ m ∷ ns) ++ behind) k ≡ judged k (named ns) (length (written_all (r ∷ s ∷ m ∷ ns)))) × (k ≡ length (written_all (r ∷ s ∷ m ∷ [])))
   unfolding read_proposal
@@ -143,7 +143,7 @@ field_stop : (f : Field) (bytes : List ℕ) (place : ℕ) (e : NumberFault) → 
 field_stop f bytes place e is = rw is refl
 
 -- a number further on is refused, after those that stand before it
-image_stop : (bytes ns behind : List ℕ) (place size : ℕ) (e : NumberFault) → All (λ n. n < 2 ^ 32) ns → length ns < size → drop place bytes ≡ written_all ns ++ behind
+image_stop : (bytes ns behind : List ℕ) (place size : ℕ) (e : NumberFault) → AllByRecursion (λ n. n < 2 ^ 32) ns → length ns < size → drop place bytes ≡ written_all ns ++ behind
     → read_number bytes (place + length (written_all ns)) ≡ Err e → read_image bytes size place ≡ Err (Number (record { field = field.Image; fault = e }))
 unfolding read_image
 image_stop bytes ns behind place zero e small few is stop = absurd (omega arith)
@@ -156,12 +156,12 @@ image_stop bytes (n ∷ ns) behind place (suc size) e (low, small) few is stop =
     let on = image_stop bytes ns behind (place + length (written n)) size e small (omega arith) (rest_of bytes place n (written_all ns ++ behind) split) (rw there at stop) in
     rw (field_back bytes place n (written_all ns ++ behind) field.Image low split, on) refl
 
-wide : (ns : List ℕ) → All (λ n. n < 268435456) ns → All (λ n. n < 2 ^ 32) ns
+wide : (ns : List ℕ) → AllByRecursion (λ n. n < 268435456) ns → AllByRecursion (λ n. n < 2 ^ 32) ns
 wide [] all = tt
 wide (n ∷ ns) (low, all) = (omega arith, wide ns all)
 
 -- a number of an image takes at most four bytes
-image_length : (ns : List ℕ) → All (λ n. n < 268435456) ns → length (written_all ns) ≤ 4 * length ns
+image_length : (ns : List ℕ) → AllByRecursion (λ n. n < 268435456) ns → length (written_all ns) ≤ 4 * length ns
 image_length [] all = omega (arith, length-nil)
 image_length (n ∷ ns) (low, all) = omega (arith, image_length ns all, length-cons n ns, (number_length 3 n low).1)
 
@@ -192,7 +192,7 @@ module _ {K : Type 0} (size : ℕ) (image : K → List ℕ) (named : List ℕ �
       let there : length (written_all (r ∷ s ∷ m ∷ ns)) ≡ p.0 + length (written_all ns) = omega (arith, p.3, length-append (written_all (r ∷ s ∷ m ∷ ns)) behind, length-append (written_all ns) behind) in
       rw (p.1, image_stop bytes ns behind p.0 size e small (omega arith) p.2 (rw there at stop)) refl
 
-  module _ (long : (x : K) → length (image x) ≡ size) (small : (x : K) → All (λ n. n < 268435456) (image x)) (back : (x : K) → named (image x) ≡ Some x) where
+  module _ (long : (x : K) → length (image x) ≡ size) (small : (x : K) → AllByRecursion (λ n. n < 268435456) (image x)) (back : (x : K) → named (image x) ≡ Some x) where
     -- a frame, and what follows
     frame_then : (f : Frame K) (behind : List ℕ) → Fits f
         → read_frame size named (frame_bytes image f ++ behind) ≡ cond (ltb (length (frame_bytes image f)) (length (frame_bytes image f ++ behind))) (Err (Surplus (length (frame_bytes image f)))) (Ok f)

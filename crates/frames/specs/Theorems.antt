@@ -1,6 +1,6 @@
 -- What the bytes of a frame are for, and which bytes are refused how. Assumes nothing.
 use Rattle.std.specs.Prelude.{◌≡◌, ℕ, suc, ◌+◌, ◌*◌, ◌^◌, ◌<◌, ◌≤◌, List, [], ◌∷◌, ◌++◌, length, None, Ok, Err, Option}
-use Rattle.std.specs.List.{AllByRecursion as All}
+use Rattle.std.specs.List.{AllByRecursion}
 use Rattle.numbers.specs.declared.codec.NumberFault.{NumberFault}
 use Rattle.numbers.specs.Numbers.{written_all, read_number}
 use Rattle.frames.specs.declared.fault.FrameFault.TheVariants.{Number, Image, Surplus}
@@ -19,17 +19,17 @@ module _ {K : Type 0} (size : ℕ) (image : K → List ℕ) (named : List ℕ �
 
   -- no other bytes read as that frame
   abbrev pub FrameOnly : Type 0
-  FrameOnly = (bytes : List ℕ) (f : Frame K) → All (λ b. b < 256) bytes → read_frame size named bytes ≡ Ok f → bytes ≡ frame_bytes image f
+  FrameOnly = (bytes : List ℕ) (f : Frame K) → AllByRecursion (λ b. b < 256) bytes → read_frame size named bytes ≡ Ok f → bytes ≡ frame_bytes image f
 
   -- where the numbers so far are too few and the next one is refused, the frame is, for that fault in the field of that number
   abbrev pub FrameNumber : Type 0
-  FrameNumber = (ns behind : List ℕ) (e : NumberFault) → All (λ n. n < 2 ^ 32) ns → length ns < 3 + size
+  FrameNumber = (ns behind : List ℕ) (e : NumberFault) → AllByRecursion (λ n. n < 2 ^ 32) ns → length ns < 3 + size
       → read_number (written_all ns ++ behind) (length (written_all ns)) ≡ Err e
       → read_frame size named (written_all ns ++ behind) ≡ Err (Number (record { field = field_at (length ns); fault = e }))
 
   -- numbers that are the image of no proposal are refused at the first of them, whatever follows
   abbrev pub FrameImage : Type 0
-  FrameImage = (r s m : ℕ) (ns behind : List ℕ) → All (λ n. n < 2 ^ 32) (r ∷ s ∷ m ∷ ns) → length ns ≡ size → named ns ≡ None
+  FrameImage = (r s m : ℕ) (ns behind : List ℕ) → AllByRecursion (λ n. n < 2 ^ 32) (r ∷ s ∷ m ∷ ns) → length ns ≡ size → named ns ≡ None
       → read_frame size named (written_all (r ∷ s ∷ m ∷ ns) ++ behind) ≡ Err (Image (length (written_all (r ∷ s ∷ m ∷ []))))
 
   -- where bytes follow a frame, the first of them is refused

@@ -1,7 +1,7 @@
 // What a proposal is: it has an image in numbers, by which it is sent, and an order.
 ghost use Rattle.std.specs.Prelude.{◌≡◌, ℕ, ◌<◌, ◌≤◌, Bool, true, ◌⊎◌, List, length, Some, Option, slice_index};
 ghost use Rattle.std.specs.Option.{ok_or};
-ghost use Rattle.std.specs.List.{AllByRecursion as All};
+ghost use Rattle.std.specs.List.{AllByRecursion};
 ghost use Rattle.numbers.specs.declared.refusal.Refusal.TheVariants.{Image};
 ghost use Rattle.kinds.specs.Orders.{before};
 
@@ -44,7 +44,7 @@ pub trait Kind: Copy {
 
     ghost long: { (x : Self) → length (image x) ≡ size };
 
-    ghost small: { (x : Self) → All (λ n. n < 268435456) (image x) };
+    ghost small: { (x : Self) → AllByRecursion (λ n. n < 268435456) (image x) };
 
     ghost back: { (x : Self) → named (image x) ≡ Some x };
 

@@ -2,7 +2,7 @@
 use Rattle.std.proofs.Common.{◌≡◌, ℕ, zero, suc, ◌+◌, ◌-◌, ◌*◌, ◌/◌, ◌%◌, ◌^◌, ◌<◌, ◌≤◌, Bool, true, false, cond, ◌&&◌, eqb, ltb, ◌⊎◌, List, [], ◌∷◌, ◌++◌, map, length, get_or, take, drop, Ok, Err, Result, sym, refl, ap, ◌∙◌, inl, inr, ⊎_elim, append_assoc, add-zero, mul-pos, arith, length-append}
 use lib.ListN.{length-map}
 use Rattle.std.specs.Int.Digits.{digits_of, number_from_digits, number_from_digits_after, AllBelowBase}
-use Rattle.std.specs.List.{prefix_len, AllByRecursion as All}
+use Rattle.std.specs.List.{prefix_len, AllByRecursion}
 use Rattle.std.proofs.lemmas.Nat.{div-mul-add, mod-mul-add}
 use Rattle.std.proofs.lemmas.Int.Digits.{digits_of_step, number_digits_of, all_below_base_digits_of, first_digits_of}
 use Rattle.std.proofs.lemmas.List.{get_or-drop, get_or_past, drop-drop, drop_at, take_at, length_push, append-nil}
@@ -102,7 +102,7 @@ record Grouped (bs : List ℕ) : Type 0 where
   low : last < 128
   is : bs ≡ map (λ d. 128 + d) ds ++ (last ∷ behind)
 
-grouped : (bs : List ℕ) → All (λ b. b < 256) bs → prefix_len goes_on bs < length bs → Grouped bs
+grouped : (bs : List ℕ) → AllByRecursion (λ b. b < 256) bs → prefix_len goes_on bs < length bs → Grouped bs
 grouped [] all inside = absurd (omega arith)
 grouped (b ∷ bs) (byte, all) inside = by (cases_lt b 128) (grouped bs all)
   where
@@ -147,13 +147,13 @@ read_inv place bs d e =
       next = ap (λ (x : Decoded). x.next) t.1;
     }
 
-all_drop : (n : ℕ) (bs : List ℕ) → All (λ b. b < 256) bs → All (λ b. b < 256) (drop n bs)
+all_drop : (n : ℕ) (bs : List ℕ) → AllByRecursion (λ b. b < 256) bs → AllByRecursion (λ b. b < 256) (drop n bs)
 all_drop zero bs all = all
 all_drop (suc n) [] all = tt
 all_drop (suc n) (b ∷ bs) (byte, all) = all_drop n bs all
 
 -- groups that do not begin with an empty one are what the number that they make is written as
-groups_only : (place : ℕ) (bs : List ℕ) (d : Decoded) → All (λ b. b < 256) bs → (get_or bs 0 0 ≡ 128 → ⊥) → Read place bs d
+groups_only : (place : ℕ) (bs : List ℕ) (d : Decoded) → AllByRecursion (λ b. b < 256) bs → (get_or bs 0 0 ≡ 128 → ⊥) → Read place bs d
     → (d.next ≡ place + length (written d.value)) × (bs ≡ written d.value ++ drop (d.next - place) bs)
 groups_only place bs d all ne r = only (grouped bs all (omega (arith, r.inside, prefix_len-le-length goes_on bs)))
   where

@@ -1,6 +1,6 @@
 -- What the numbers' bytes are for. Assumes nothing.
 use Rattle.std.specs.Prelude.{◌≡◌, ℕ, suc, ◌+◌, ◌^◌, ◌<◌, ◌≤◌, List, ◌++◌, length, drop, Ok}
-use Rattle.std.specs.List.{AllByRecursion as All}
+use Rattle.std.specs.List.{AllByRecursion}
 use Rattle.numbers.specs.declared.codec.Decoded.{Decoded}
 use Rattle.numbers.specs.Numbers.{written, read_number}
 
@@ -11,7 +11,7 @@ NumberBack = (n place : ℕ) (bytes behind : List ℕ) → n < 2 ^ 32 → drop p
 
 -- no other bytes read as that number: what was read is a number that there is, and the bytes that it is written as
 abbrev pub NumberOnly : Type 0
-NumberOnly = (bytes : List ℕ) (place : ℕ) (d : Decoded) → All (λ b. b < 256) bytes → read_number bytes place ≡ Ok d
+NumberOnly = (bytes : List ℕ) (place : ℕ) (d : Decoded) → AllByRecursion (λ b. b < 256) bytes → read_number bytes place ≡ Ok d
     → (d.value < 2 ^ 32) × (d.next ≡ place + length (written d.value)) × (drop place bytes ≡ written d.value ++ drop d.next bytes)
 
 -- every number takes a byte at least, and one below 128 ^ (k + 1) no more than k + 1
