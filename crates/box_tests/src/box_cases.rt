@@ -142,8 +142,8 @@ fn made_boxes(rt: HostRuntime) -> Result<(), Fail> {
     making_refuses(&rt, 0, 33, 1, 11)?;
     making_refuses(&rt, 0, 4, 0, 11)?;
     making_refuses(&rt, 0, 4, 4, 11)?;
-    // The company before the number.
     making_refuses(&rt, 4, 4, 2, 5)?;
+    // The company before the number.
     making_refuses(&rt, 4, 4, 4, 11)?;
     let last = made(31, 32, 31, 20)?;
     holds(&rt, last, 0, 20, 0, 32);
@@ -189,11 +189,11 @@ fn frames_at_fault(rt: HostRuntime) -> Result<(), Fail> {
 fn frames_refused_by_the_box(rt: HostRuntime) -> Result<(), Fail> {
     let mut ear = made(0, 4, 2, 30)?.open();
     refuses(&rt, &mut ear, b"\x02\x01\x00\x14", 1, 6)?;
-    // Its own frame.
     refuses(&rt, &mut ear, b"\x01\x04\x00\x14", 1, 5)?;
+    // Its own frame.
     refuses(&rt, &mut ear, b"\x01\x00\x00\x1e", 1, 7)?;
-    // A frame heard twice.
     hears(&mut ear, b"\x01\x01\x00\x14")?;
+    // A frame heard twice.
     refuses(&rt, &mut ear, b"\x01\x01\x00\x14", 1, 7)?;
     // A bit from n on.
     refuses(&rt, &mut ear, b"\x01\x02\x10\x0a", 1, 8)?;
@@ -210,16 +210,16 @@ fn frames_refused_by_the_box(rt: HostRuntime) -> Result<(), Fail> {
     let b = rests(ear)?;
     holds(&rt, b, 1, 20, 0x0c, 3);
     let mut ear = b.open();
-    // Who is missing, before the set.
     refuses(&rt, &mut ear, b"\x02\x02\x00\x0a", 2, 14)?;
+    // Who is missing, before the set.
     refuses(&rt, &mut ear, b"\x02\x03\x01\x0a", 2, 14)
 }
 
 #[test]
 fn too_many_missing(rt: HostRuntime) -> Result<(), Fail> {
     let ear = opened(made(0, 4, 1, 30)?, &[*b"\x01\x01\x00\x14"])?;
-    // What was heard stays heard.
     let mut ear = still_listens(&rt, ear, 1)?;
+    // What was heard stays heard.
     refuses(&rt, &mut ear, b"\x01\x01\x00\x14", 1, 7)?;
     hears(&mut ear, b"\x01\x02\x00\x0a")?;
     holds(&rt, rests(ear)?, 1, 10, 0x08, 2);

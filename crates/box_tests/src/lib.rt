@@ -1,5 +1,5 @@
+// Tests of boxes: each refusal that a box can give, and rounds closed by hand.
 #![tactic(auto)]
 
-// Tests of boxes: each refusal that a box can give, and rounds closed by hand.
 #[cfg(test)]
 mod box_cases;

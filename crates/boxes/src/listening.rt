@@ -1,5 +1,5 @@
 // A listening box: it hears frames and closes its round.
-ghost use Rattle.std.specs.Prelude.{◌≡◌};
+ghost use Rattle.std.specs.Prelude.{◌≡◌, ⊤};
 ghost use Rattle.std.specs.Result.{result_map_both, result_unwrap_or};
 ghost use Rattle.boxes.specs.Boxes.{next_round};
 ghost use Rattle.frames.specs.Frames.{read_frame};
@@ -11,6 +11,7 @@ use frames::{Frame, read_frame};
 use kinds::Kind;
 use numbers::Refusal;
 use sets::{BoxSet, RoundNumber};
+use std::alloc::AllocError;
 
 impl<K: Kind> Notes<K> {
     // The notes with one frame more.
@@ -26,6 +27,17 @@ impl<K: Kind> Notes<K> {
                 self.foremost
             },
         }
+    }
+}
+
+// A copy, which takes no memory.
+impl<K: Copy> Clone for Listening<K> {
+    ghost is_clone = { λ b c. c ≡ b };
+
+    ghost is_infallible = { λ _. ⊤ };
+
+    fn clone(&self) -> Result<Self, AllocError> {
+        Ok(*self)
     }
 }
 

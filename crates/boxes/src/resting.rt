@@ -1,5 +1,5 @@
 // A box at rest: made, read, and composing the frame of its next round.
-ghost use Rattle.std.specs.Prelude.{◌≡◌};
+ghost use Rattle.std.specs.Prelude.{◌≡◌, ⊤};
 ghost use Rattle.std.specs.Result.{result_map_both};
 ghost use Rattle.numbers.specs.Numbers.{fronted, room_for};
 ghost use Rattle.frames.specs.Frames.{frame_bytes};
@@ -11,10 +11,22 @@ use frames::{Frame, write_frame};
 use kinds::Kind;
 use numbers::Refusal;
 use sets::{BoxNumber, BoxSet, RoundNumber};
+use std::alloc::AllocError;
 
 const LEAST_COMPANY: u32 = 2;
 
 const MOST_COMPANY: u32 = 32;
+
+// A copy, which takes no memory.
+impl<K: Copy> Clone for Resting<K> {
+    ghost is_clone = { λ b c. c ≡ b };
+
+    ghost is_infallible = { λ _. ⊤ };
+
+    fn clone(&self) -> Result<Self, AllocError> {
+        Ok(*self)
+    }
+}
 
 impl<K: Kind> Resting<K> {
     // A new box of a company of n, of which t may fall, with its proposal.

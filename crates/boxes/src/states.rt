@@ -1,10 +1,9 @@
 // The states of a box, as types: at rest, listening, and what closing a round leaves. What every box keeps stands in its type.
-ghost use Rattle.std.specs.Prelude.{◌≡◌, ◌+◌, ◌^◌, ◌<◌, ◌≤◌, true, false, ⊤};
+ghost use Rattle.std.specs.Prelude.{◌≡◌, ◌+◌, ◌^◌, ◌<◌, ◌≤◌, true, false};
 ghost use Rattle.sets.specs.Tests.{count};
 ghost use Rattle.sets.specs.Masks.{member};
 
 use sets::{BoxNumber, BoxSet, RoundNumber};
-use std::alloc::AllocError;
 
 // The seven values that a box holds.
 #[derive(Clone, Copy)]
@@ -39,16 +38,6 @@ pub struct Resting<K> {
     ghost due: { held.horizon.0 ≤ held.t + 1 },
 }
 
-impl<K: Copy> Clone for Resting<K> {
-    ghost is_clone = { λ b c. c ≡ b };
-
-    ghost is_infallible = { λ _. ⊤ };
-
-    fn clone(&self) -> Result<Self, AllocError> {
-        Ok(*self)
-    }
-}
-
 // What a box has noted of the round that it listens to.
 #[derive(Clone, Copy)]
 pub struct Notes<K> {
@@ -66,16 +55,6 @@ pub struct Listening<K> {
     pub(crate) at: Resting<K>,
     pub(crate) notes: Notes<K>,
     ghost itself: { member notes.heard at.held.number.0 ≡ true },
-}
-
-impl<K: Copy> Clone for Listening<K> {
-    ghost is_clone = { λ b c. c ≡ b };
-
-    ghost is_infallible = { λ _. ⊤ };
-
-    fn clone(&self) -> Result<Self, AllocError> {
-        Ok(*self)
-    }
 }
 
 // What closing a round leaves: a box at rest, or the round in which it rings and the proposal on which it does.

@@ -135,8 +135,8 @@ fn faults_of_numbers(rt: HostRuntime) -> Result<(), Fail> {
 fn faults_of_frames(rt: HostRuntime) -> Result<(), Fail> {
     refuses::<Piece>(&rt, b"\x02\x00\x04\x81\x80\x00", 9, "image", 3)?;
     refuses::<Call>(&rt, b"\x02\x00\x04\x0a\x14", 9, "image", 3)?;
-    // The image before what follows it.
     refuses::<Call>(&rt, b"\x02\x00\x04\x00\x14", 9, "image", 3)?;
+    // The image before what follows it.
     refuses::<Call>(&rt, b"\x02\x00\x04\x00\x14\x00", 9, "image", 3)?;
     refuses::<Piece>(&rt, b"\x02\x00\x04\x14\x00", 4, "end", 4)?;
     refuses::<Call>(&rt, b"\x02\x00\x04\x09\x14\x80\x00", 4, "end", 5)

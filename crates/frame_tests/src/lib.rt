@@ -1,6 +1,6 @@
+// Tests of numbers and frames on worked examples, in bytes.
 #![tactic(auto)]
 
-// Tests of numbers and frames on worked examples, in bytes.
 #[cfg(test)]
 mod frame_cases;
 #[cfg(test)]

@@ -61,14 +61,14 @@ fn numbers_refused(rt: HostRuntime) -> Result<(), Fail> {
     refuses(&rt, b"", 0, 1)?;
     refuses(&rt, b"\x81", 0, 1)?;
     refuses(&rt, b"\x05", 1, 1)?;
-    // Four groups go on, and no more bytes.
     refuses(&rt, b"\x05", 7, 1)?;
+    // Four groups go on, and no more bytes.
     refuses(&rt, b"\x81\x81\x81\x81", 0, 1)?;
     // The fifth goes on: too wide, before the end is seen.
     refuses(&rt, b"\x81\x81\x81\x81\x81", 0, 2)?;
     refuses(&rt, b"\x90\x80\x80\x80\x00", 0, 2)?;
-    // Padded before short.
     refuses(&rt, b"\x80\x05", 0, 3)?;
+    // Padded before short.
     refuses(&rt, b"\x80", 0, 3)?;
     // Padded before wide.
     refuses(&rt, b"\x80\x80\x80\x80\x80\x80", 0, 3)?;
