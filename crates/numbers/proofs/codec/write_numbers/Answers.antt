@@ -15,8 +15,8 @@ loop-n-init c = (
 )
 
 -- there is room for the next number
-next-room : (c : In-loop-n) → c.loop-n.at + length (written (get_or c.args.numbers.now c.loop-n.n-index 0)) ≤ length c.args.out.now
-next-room c = omega (
+next_room : (c : In-loop-n) → c.loop-n.at + length (written (get_or c.args.numbers.now c.loop-n.n-index 0)) ≤ length c.args.out.now
+next_room c = omega (
   arith,
   c.loop-n.invariant.0,
   c.loop-n.invariant.2,
@@ -25,10 +25,10 @@ next-room c = omega (
 )
 
 pub slice_bounds-write_number-count : goal.slice_bounds-write_number-count
-slice_bounds-write_number-count c = omega (arith, next-room (goal.at.slice_bounds-write_number-count c).In-loop-n)
+slice_bounds-write_number-count c = omega (arith, next_room (goal.at.slice_bounds-write_number-count c).In-loop-n)
 
 pub slice_bounds-write_number-start : goal.slice_bounds-write_number-start
-slice_bounds-write_number-start c = omega (arith, next-room (goal.at.slice_bounds-write_number-start c).In-loop-n)
+slice_bounds-write_number-start c = omega (arith, next_room (goal.at.slice_bounds-write_number-start c).In-loop-n)
 
 -- so the call wrote the number
 told : (c : After-write_number) → c.loop-n.at + length (written (get_or c.args.numbers.now c.loop-n.n-index 0)) ≤ length c.args.out.now
@@ -38,14 +38,14 @@ told c room =
 
 pub returns-in_err-at : goal.returns-in_err-at
 returns-in_err-at c =
-    let t = told (goal.at.returns-in_err-at c).After-write_number (next-room (goal.at.returns-in_err-at c).In-loop-n) in
+    let t = told (goal.at.returns-in_err-at c).After-write_number (next_room (goal.at.returns-in_err-at c).In-loop-n) in
     let w = c.in_err-at.was in
     let z : ◌≡◌ {A = ℕ} 0 1 = cc in
     absurd (omega arith)
 
 pub overflow_add-at : goal.overflow_add-at
 overflow_add-at c =
-    let room = next-room (goal.at.overflow_add-at c).In-loop-n in
+    let room = next_room (goal.at.overflow_add-at c).In-loop-n in
     let t = told (goal.at.overflow_add-at c).After-write_number room in
     let w = c.in_ok-at.was in
     let e : c.in_ok-at.field-0 ≡ length (written (get_or c.args.numbers.now c.loop-n.n-index 0)) = cc in
@@ -53,7 +53,7 @@ overflow_add-at c =
 
 pub loop-n-preserved : goal.loop-n-preserved
 loop-n-preserved c =
-    let room = next-room (goal.at.loop-n-preserved c).In-loop-n in
+    let room = next_room (goal.at.loop-n-preserved c).In-loop-n in
     let t = told (goal.at.loop-n-preserved c).After-write_number room in
     let w = c.in_ok-at.was in
     let e : c.in_ok-at.field-0 ≡ length (written (get_or c.args.numbers.now c.loop-n.n-index 0)) = cc in
