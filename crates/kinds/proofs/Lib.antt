@@ -1,1 +1,2 @@
+pub mod Values
 pub mod Firsts

@@ -1,16 +1,15 @@
 -- Proposals with equal numbers are equal, since their ghost fields have one proof each; and what follows for the two kinds.
 -- Assumes nothing.
-use Rattle.std.specs.Prelude.{◌≡◌, ℕ, ◌-◌, ◌≤◌, true, List, [], ◌∷◌, length, take, drop, Some, None, Ok, Err, Option, slice_index, refl}
+use Rattle.std.specs.Prelude.{◌≡◌, ◌≤◌, true, Some, refl}
 use Rattle.std.proofs.Common.{ap, ◌∙◌, arith}
 use Rattle.std.proofs.lemmas.Bool.{leb-true}
 use Rattle.std.proofs.lemmas.Bool.Decides.{nat_tests}
 use mathlib.Core.HLevel.{is_prop→PathP}
 use Rattle.std.proofs.Math.Bridge.{le_prop}
 use Rattle.std.proofs.Math.Decide.{dec_le}
-use Rattle.std.specs.Option.{ok_or}
 use Rattle.kinds.specs.declared.proposals.Piece.{Piece}
 use Rattle.kinds.specs.declared.proposals.Call.{Call}
-use Rattle.kinds.specs.Pieces.{piece_by, piece_at, piece_named, piece_leads}
+use Rattle.kinds.specs.Pieces.{piece_by, piece_at, piece_leads}
 use Rattle.kinds.specs.Calls.{call_by, call_at, call_image, call_named, call_leads}
 
 pub piece_path : (x y : Piece) → x.number ≡ y.number → x ≡ y
@@ -51,24 +50,3 @@ call_antisymmetric x y a b =
     let r : x.rank ≡ y.rank = grind (arith, nat_tests) in
     let p : x.piece.number ≡ y.piece.number = grind (arith, nat_tests) in
     call_path x y r (piece_path _ _ p)
-
--- a list of one number, and a list of a rank and what follows
-pub named_one : (ns : List ℕ) → length ns ≡ 1 → piece_named ns ≡ piece_at (slice_index ns 0)
-named_one [] l = absurd (omega arith)
-named_one (n ∷ []) l = refl
-named_one (n ∷ m ∷ ns) l = absurd (omega arith)
-
-pub named_two : (ns : List ℕ) (k : ℕ) → length ns ≡ 2 → k ≡ length ns - 1 → call_named ns ≡ call_at (slice_index ns 0) (piece_named (take k (drop 1 ns)))
-named_two [] k l e = absurd (omega arith)
-named_two (r ∷ []) k l e = absurd (omega arith)
-named_two (r ∷ n ∷ []) k l e = rw e refl
-named_two (r ∷ n ∷ m ∷ ns) k l e = absurd (omega arith)
-
--- what an accepted image tells, and a refused one
-pub some_from_ok : {T E : Type 0} (o : Option T) (e : E) (x : T) → Ok x ≡ ok_or o e → o ≡ Some x
-some_from_ok (Some y) e x is = cc
-some_from_ok None e x is = let z : ◌≡◌ {A = ℕ} 0 1 = cc in absurd (omega arith)
-
-pub none_from_err : {T E : Type 0} (o : Option T) (e f : E) → Err f ≡ ok_or o e → o ≡ None
-none_from_err (Some y) e f is = let z : ◌≡◌ {A = ℕ} 0 1 = cc in absurd (omega arith)
-none_from_err None e f is = refl

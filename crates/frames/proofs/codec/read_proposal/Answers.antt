@@ -3,7 +3,7 @@ use native.Mathlib.Nat.{sub-zero}
 use Rattle.std.proofs.lemmas.Result.{err_from_is_err_and}
 use Rattle.std.proofs.lemmas.List.{take_more_set}
 use Rattle.numbers.specs.declared.refusal.Refusal.TheVariants.{Image}
-use Rattle.kinds.specs.ValuesLemmas.{some_from_ok, none_from_err}
+use Rattle.kinds.proofs.Values.{some_from_ok, none_from_err}
 use Rattle.frames.specs.Frames.{read_image, judged, read_proposal}
 use Rattle.frames.proofs.Whole.{behind, behind-nil, image_step, image_stop, image_end, proposal_is, proposal_stop}
 use Rattle.frames.proofs.codec.read_proposal.Given as given

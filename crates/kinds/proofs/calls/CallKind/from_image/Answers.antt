@@ -3,7 +3,8 @@ use Rattle.std.specs.Option.{ok_or}
 use Rattle.numbers.specs.declared.refusal.Refusal.TheVariants.{Image}
 use Rattle.kinds.specs.Pieces.{piece_named}
 use Rattle.kinds.specs.Calls.{call_at}
-use Rattle.kinds.specs.ValuesLemmas.{call_at_lem, named_two, some_from_ok}
+use Rattle.kinds.specs.ValuesLemmas.{call_at_lem}
+use Rattle.kinds.proofs.Values.{named_two, some_from_ok}
 use Rattle.kinds.proofs.calls.CallKind.from_image.Goals as goal
 
 pub returns : goal.returns

@@ -1,7 +1,8 @@
 use Rattle.std.proofs.Common.{◌≡◌, length, sym, ap, ◌∙◌, arith}
 use Rattle.std.specs.Option.{ok_or}
 use Rattle.numbers.specs.declared.refusal.Refusal.TheVariants.{Image}
-use Rattle.kinds.specs.ValuesLemmas.{piece_at_lem, named_one}
+use Rattle.kinds.specs.ValuesLemmas.{piece_at_lem}
+use Rattle.kinds.proofs.Values.{named_one}
 use Rattle.kinds.proofs.pieces.PieceKind.from_image.Goals as goal
 
 pub returns : goal.returns
