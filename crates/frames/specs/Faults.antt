@@ -1,9 +1,10 @@
 -- The faults of a frame: refusal, field and place of each, and how that of a number comes up inside. Assumes nothing.
-use Rattle.std.specs.Prelude.{ℕ, zero, suc, List, Ok, Err, codes, Result}
+use Rattle.std.specs.Prelude.{ℕ, zero, suc, List, ◌++◌, Ok, Err, codes, decimal, Result}
 use Rattle.numbers.specs.declared.codec.Decoded.{Decoded}
 use Rattle.numbers.specs.declared.codec.NumberFault.{NumberFault}
 use Rattle.numbers.specs.declared.refusal.Refusal.{Refusal}
 use Rattle.numbers.specs.declared.refusal.Refusal.TheVariants as refusal
+use Rattle.numbers.specs.Refusals.{refusal_text}
 use Rattle.numbers.specs.Numbers.{read_number}
 use Rattle.frames.specs.declared.fault.Field.{Field}
 use Rattle.frames.specs.declared.fault.Field.TheVariants as field
@@ -39,6 +40,10 @@ abbrev pub place_of : FrameFault → ℕ
 place_of (Number f) = f.fault.place
 place_of (Image place) = place
 place_of (Surplus place) = place
+
+-- refusal, field and place, with a space between
+abbrev pub fault_text : FrameFault → List ℕ
+fault_text e = refusal_text (refusal_of e) ++ (codes " " ++ (field_word (field_of e) ++ (codes " " ++ decimal (place_of e))))
 
 -- to go on with what was read, or to end with its fault, as another where it comes up into a layer above
 abbrev pub and_then : {X Y D E : Type 0} → (D → E) → Result X D → (X → Result Y E) → Result Y E

@@ -1,12 +1,14 @@
 // Faults of a frame: the fault of a number comes up inside them, with the field in which it was met.
-ghost use Rattle.std.specs.Prelude.{◌≡◌};
+ghost use Rattle.std.specs.Prelude.{◌≡◌, Some};
 ghost use Rattle.frames.specs.declared.fault.FrameFault.TheVariants.{Number};
-ghost use Rattle.frames.specs.Faults.{field_word, refusal_of, field_of, place_of};
+ghost use Rattle.frames.specs.Faults.{field_word, refusal_of, field_of, place_of, fault_text};
 
 use numbers::{NumberFault, Refusal};
+use std::error::Error;
+use std::fmt;
 
 // The parts of a frame, in order; the end is where no byte may follow.
-#[derive(Clone, Copy)]
+#[derive(Clone, Copy, Debug, PartialEq, Eq)]
 pub enum Field {
     Round,
     Sender,
@@ -29,14 +31,22 @@ impl Field {
     }
 }
 
+impl fmt::Display for Field {
+    ghost output = { λ field. Some (field_word field) };
+
+    fn fmt<W: fmt::Write>(&self, f: &mut fmt::Formatter<W>) -> fmt::Result {
+        f.write_str(self.word())
+    }
+}
+
 // The fault of a number, with the field that the number belongs to.
-#[derive(Clone, Copy)]
+#[derive(Clone, Copy, Debug, PartialEq, Eq)]
 pub struct FieldFault {
     pub field: Field,
     pub fault: NumberFault,
 }
 
-#[derive(Clone, Copy)]
+#[derive(Clone, Copy, Debug, PartialEq, Eq)]
 pub enum FrameFault {
     // A number was not read.
     Number(FieldFault),
@@ -78,6 +88,17 @@ impl FrameFault {
         }
     }
 }
+
+// Refusal, field and place, as in `3 padded image 4`.
+impl fmt::Display for FrameFault {
+    ghost output = { λ e. Some (fault_text e) };
+
+    fn fmt<W: fmt::Write>(&self, f: &mut fmt::Formatter<W>) -> fmt::Result {
+        write!(f, "{} {} {}", self.refusal(), self.field(), self.place())
+    }
+}
+
+impl Error for FrameFault {}
 
 impl From<FieldFault> for FrameFault {
     ghost from_gives = { λ f r. r ≡ Number f };

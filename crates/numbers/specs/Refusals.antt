@@ -1,5 +1,5 @@
 -- The number and the word of each refusal, and which of several is given. Assumes nothing.
-use Rattle.std.specs.Prelude.{ℕ, Bool, cond, List, [], ◌∷◌, Ok, Err, codes, Result}
+use Rattle.std.specs.Prelude.{ℕ, Bool, cond, List, [], ◌∷◌, ◌++◌, Ok, Err, codes, decimal, Result}
 use Rattle.numbers.specs.declared.refusal.Refusal.{Refusal}
 use Rattle.numbers.specs.declared.refusal.Refusal.TheVariants.{Short, Wide, Padded, Surplus, Stranger, OffBeat, Heard, Set, Image, Tally, Company, Row, Wire, Down, Spent, Over, Silent, Order, Narrow, Posted, Entry}
 
@@ -49,6 +49,10 @@ word_of Order = codes "order"
 word_of Narrow = codes "narrow"
 word_of Posted = codes "posted"
 word_of Entry = codes "entry"
+
+-- number and word, with a space between
+abbrev pub refusal_text : Refusal → List ℕ
+refusal_text e = decimal (number_of e) ++ (codes " " ++ word_of e)
 
 -- the answer of a call that refuses for the first of these faults that there is, and else gives x
 abbrev pub unless : {X : Type 0} → List (Bool × Refusal) → X → Result X Refusal

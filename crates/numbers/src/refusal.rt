@@ -1,8 +1,11 @@
 // Why a call was refused. Every refusing call of every layer tells one of these, alone or inside a fault.
-ghost use Rattle.std.specs.Prelude.{◌≡◌};
-ghost use Rattle.numbers.specs.Refusals.{number_of, word_of};
+ghost use Rattle.std.specs.Prelude.{◌≡◌, Some};
+ghost use Rattle.numbers.specs.Refusals.{number_of, word_of, refusal_text};
 
-#[derive(Clone, Copy)]
+use std::error::Error;
+use std::fmt;
+
+#[derive(Clone, Copy, Debug, PartialEq, Eq)]
 pub enum Refusal {
     // The bytes end too soon.
     Short = 1,
@@ -83,3 +86,14 @@ impl Refusal {
         }
     }
 }
+
+// Number and word, as in `19 narrow`.
+impl fmt::Display for Refusal {
+    ghost output = { λ e. Some (refusal_text e) };
+
+    fn fmt<W: fmt::Write>(&self, f: &mut fmt::Formatter<W>) -> fmt::Result {
+        write!(f, "{} {}", self.number(), self.word())
+    }
+}
+
+impl Error for Refusal {}
