@@ -8,20 +8,20 @@ use numbers::Refusal;
 use sets::RoundNumber;
 
 // The fault of a frame, with the round that was open.
-#[derive(Clone, Copy)]
+#[derive(Clone, Copy, Debug, PartialEq, Eq)]
 pub struct RoundFault {
     pub round: RoundNumber,
     pub fault: FrameFault,
 }
 
 // A refusal by the box itself, with the round that was open.
-#[derive(Clone, Copy)]
+#[derive(Clone, Copy, Debug, PartialEq, Eq)]
 pub struct OwnFault {
     pub round: RoundNumber,
     pub refusal: Refusal,
 }
 
-#[derive(Clone, Copy)]
+#[derive(Clone, Copy, Debug, PartialEq, Eq)]
 pub enum BoxFault {
     // The bytes hold no frame.
     Frame(RoundFault),

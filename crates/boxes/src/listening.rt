@@ -62,13 +62,10 @@ impl<K: Kind> Listening<K> {
     fn read(self, bytes: &[u8]) -> Result<Frame<K>, RoundFault>
         ensures { result ≡ result_map_both (λ f. f) (in_round self.at.held) (read_frame K.size K.named bytes.now) }
     {
-        match read_frame::<K>(bytes) {
-            Ok(frame) => Ok(frame),
-            Err(fault) => Err(RoundFault {
-                round: self.round(),
-                fault,
-            }),
-        }
+        read_frame::<K>(bytes).map_err(|fault| RoundFault {
+            round: self.round(),
+            fault,
+        })
     }
 
     // Whether the frame's set has a box that it may not have: one outside the company, the sender or the hearer.
