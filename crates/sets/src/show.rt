@@ -11,11 +11,11 @@ impl fmt::Display for BoxSet {
 
     fn fmt<W: fmt::Write>(&self, f: &mut fmt::Formatter<W>) -> fmt::Result {
         write!(f, "{{")?;
-        let mut first = true;
+        let mut separator = "";
         for i in 0..32 {
             if self.contains(BoxNumber(i)) {
-                write!(f, "{}{i}", if first { "" } else { ", " })?;
-                first = false;
+                write!(f, "{separator}{i}")?;
+                separator = ", ";
             }
         }
         write!(f, "}}")
