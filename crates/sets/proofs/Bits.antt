@@ -62,6 +62,26 @@ bit-and = bit_op bit_and ◌&&◌ and_shr (λ a b. let s = and_step a b in grind
 pub bit-xor : (a b i : ℕ) → bit (bit_xor a b) i ≡ cond (bit b i) (not (bit a i)) (bit a i)
 bit-xor = bit_op bit_xor (λ x y. cond y (not x) x) xor_shr (λ a b. let s = xor_add_and a b in grind (arith, nat_tests))
 
+-- as `!` turns each place over
+pub bit-not : (n mask i : ℕ) → mask < 2 ^ n → bit (2 ^ n - 1 - mask) i ≡ (ltb i n && not (bit mask i))
+bit-not zero mask i l =
+    let none : 2 ^ 0 - 1 - mask ≡ 0 = omega arith in
+    let z = bit-zero i in
+    grind (arith, nat_tests)
+bit-not (suc n) mask zero l =
+    let p = pow-suc 2 n in
+    let a = bit_low (2 ^ suc n - 1 - mask) in
+    let b = bit_low mask in
+    let odd : (2 ^ suc n - 1 - mask) % 2 + mask % 2 ≡ 1 = omega arith in
+    grind (arith, nat_tests)
+bit-not (suc n) mask (suc i) l =
+    let p = pow-suc 2 n in
+    let halves : (2 ^ suc n - 1 - mask) / 2 ≡ 2 ^ n - 1 - mask / 2 = omega arith in
+    let ih = bit-not n (mask / 2) i (omega arith) in
+    let a = bit_step (2 ^ suc n - 1 - mask) i in
+    let b = bit_step mask i in
+    grind (arith, nat_tests)
+
 -- ---- a mask is its places
 
 digit : (mask : ℕ) → mask % 2 ≡ cond (bit mask 0) 1 0

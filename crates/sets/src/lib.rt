@@ -1,8 +1,6 @@
-// Boxes and rounds by number, and sets of boxes as 32-bit masks.
 #![tactic(auto)]
 
 mod labels;
-mod masks;
 mod set;
 mod show;
 mod theorems;

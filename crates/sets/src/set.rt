@@ -5,10 +5,9 @@ ghost use Rattle.sets.specs.Tests.{any, count};
 ghost use Rattle.sets.specs.Masks.{member, set_of};
 
 use super::labels::BoxNumber;
-use super::masks::{
-    either, first_alone, has_place, is_within, no_places, none_from, one_place, place_count,
-    places_below, with_place,
-};
+
+// How many boxes a set has room for.
+const PLACES: u32 = 32;
 
 #[derive(Clone, Copy, PartialEq, Eq, Debug)]
 pub struct BoxSet {
@@ -19,7 +18,7 @@ impl BoxSet {
     pub fn empty() -> BoxSet
         ensures { result ≡ set_of (λ _. false) }
     {
-        BoxSet { mask: no_places() }
+        BoxSet { mask: 0 }
     }
 
     // The set of one box; a number for which there is no room gives none.
@@ -27,7 +26,7 @@ impl BoxSet {
         ensures { result ≡ set_of (λ i. nat_eq i q.0) }
     {
         BoxSet {
-            mask: one_place(q.0),
+            mask: if q.0 < PLACES { 1 << q.0 } else { 0 },
         }
     }
 
@@ -36,7 +35,7 @@ impl BoxSet {
         ensures { result ≡ set_of (λ i. nat_lt i n) }
     {
         BoxSet {
-            mask: places_below(n),
+            mask: if n < PLACES { (1 << n) - 1 } else { u32::MAX },
         }
     }
 
@@ -55,23 +54,21 @@ impl BoxSet {
     pub fn contains(self, q: BoxNumber) -> bool
         ensures { result ≡ member self q.0 }
     {
-        has_place(self.mask, q.0)
+        q.0 < PLACES && self.mask >> q.0 & 1 == 1
     }
 
     // The set with one more box; a number for which there is no room adds none.
     pub fn with(self, q: BoxNumber) -> BoxSet
         ensures { result ≡ set_of (λ i. member self i || i == q.0) }
     {
-        BoxSet {
-            mask: with_place(self.mask, q.0),
-        }
+        self.union(BoxSet::only(q))
     }
 
     pub fn union(self, other: BoxSet) -> BoxSet
         ensures { result ≡ set_of (λ i. member self i || member other i) }
     {
         BoxSet {
-            mask: either(self.mask, other.mask),
+            mask: self.mask | other.mask,
         }
     }
 
@@ -79,7 +76,7 @@ impl BoxSet {
         ensures { result ≡ set_of (λ i. member self i && not (member other i)) }
     {
         BoxSet {
-            mask: first_alone(self.mask, other.mask),
+            mask: self.mask & !other.mask,
         }
     }
 
@@ -87,20 +84,20 @@ impl BoxSet {
     pub fn is_subset(self, other: BoxSet) -> bool
         ensures { result ≡ not (any (λ i. member self i && not (member other i)) 32) }
     {
-        is_within(self.mask, other.mask)
+        (self.mask & other.mask) == self.mask
     }
 
     // How many boxes it has.
     pub fn count(self) -> u32
         ensures { result ≡ count (member self) 32 }
     {
-        place_count(self.mask)
+        u32::count_ones(self.mask)
     }
 
     // Whether all its boxes are numbered below n.
     pub fn is_below(self, n: u32) -> bool
         ensures { result ≡ not (any (λ i. member self i && nat_le n i) 32) }
     {
-        none_from(self.mask, n)
+        n >= PLACES || self.mask >> n == 0
     }
 }

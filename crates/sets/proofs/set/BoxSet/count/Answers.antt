@@ -1,7 +1,7 @@
--- The set digits are the places.
+-- The set digits are the members.
 use Rattle.std.proofs.Common.{rules}
 use Rattle.sets.proofs.Bits.{ones_counted}
-use Rattle.sets.proofs.masks.place_count.Goals as goal
+use Rattle.sets.proofs.set.BoxSet.count.Goals as goal
 
 pub returns : goal.returns
 returns c = search (rules, ones_counted 32)

@@ -1,9 +1,9 @@
--- From 32 on no mask has a place; else the shift leaves the places from n on.
+-- From 32 on no mask has a bit; else the shift leaves the bits from n on.
 use Rattle.std.proofs.Common.{arith, rules}
 use Rattle.std.proofs.lemmas.Bool.Decides.{nat_tests}
 use Rattle.sets.proofs.Counts.{not-any}
 use Rattle.sets.proofs.Bits.{above_is}
-use Rattle.sets.proofs.masks.none_from.Goals as goal
+use Rattle.sets.proofs.set.BoxSet.is_below.Goals as goal
 
 pub returns-then-n-ge-PLACES : goal.returns-then-n-ge-PLACES
 returns-then-n-ge-PLACES c = not-any _ 32 _ (λ t i l. grind (arith, nat_tests)) (λ f. grind (arith, nat_tests))

@@ -1,7 +1,0 @@
--- The places in common are all of the first mask's just where none of them is missing from the second.
-use Rattle.std.proofs.Common.{rules}
-use Rattle.sets.proofs.Bits.{subset_is}
-use Rattle.sets.proofs.masks.is_within.Goals as goal
-
-pub returns : goal.returns
-returns c = search (rules, subset_is 32)
