@@ -10,7 +10,7 @@ use super::states::{Closed, Held, Listening, Notes, Resting};
 use frames::{Frame, read_frame};
 use kinds::Kind;
 use numbers::Refusal;
-use sets::{BoxSet, RoundNumber};
+use sets::{BoxNumber, BoxSet, RoundNumber};
 use std::alloc::AllocError;
 
 impl<K: Kind> Notes<K> {
@@ -42,6 +42,12 @@ impl<K: Copy> Clone for Listening<K> {
 }
 
 impl<K: Kind> Listening<K> {
+    pub fn number(self) -> BoxNumber
+        ensures { result ≡ self.at.held.number }
+    {
+        self.at.held.number
+    }
+
     // The round that is open.
     fn round(self) -> RoundNumber
         ensures { result ≡ next_round self.at.held }

@@ -4,9 +4,11 @@
 mod codec;
 mod fault;
 mod frame;
+mod hex;
 mod theorems;
 
 pub use codec::{read_frame, write_frame};
 pub use fault::{Field, FieldFault, FrameFault};
 pub use frame::Frame;
+pub use hex::HexBytes;
 pub use theorems::{examples_stand, frames_stand};

@@ -2,7 +2,7 @@
 // is refused.
 #![tactic(auto)]
 
-use frames::{Frame, FrameFault, read_frame, write_frame};
+use frames::{Frame, HexBytes, read_frame, write_frame};
 use kinds::Piece;
 use std::io;
 use std::io::Read;
@@ -12,14 +12,6 @@ const MOST_READ: u64 = 64;
 
 const LONGEST: usize = 20;
 
-fn show_bytes(rt: &impl Print, bytes: &[u8]) -> io::Result<()> {
-    print!(rt; "bytes")?;
-    for byte in bytes {
-        print!(rt; " {byte:02x}")?;
-    }
-    println!(rt; "")
-}
-
 fn show(rt: &impl Print, frame: Frame<Piece>) -> io::Result<()> {
     let mut out = [0; LONGEST];
     match write_frame(frame, &mut out) {
@@ -28,21 +20,10 @@ fn show(rt: &impl Print, frame: Frame<Piece>) -> io::Result<()> {
             println!(rt; "sender {}", frame.sender.0)?;
             println!(rt; "set {}", frame.missing)?;
             println!(rt; "piece {}", frame.estimate.number())?;
-            show_bytes(rt, &out[0..len])
+            println!(rt; "bytes{}", HexBytes(&out[..len]))
         }
-        Err(refusal) => println!(rt; "refused {} {}", refusal.number(), refusal.word()),
+        Err(refusal) => println!(rt; "refused {refusal}"),
     }
-}
-
-fn show_fault(rt: &impl Print, fault: FrameFault) -> io::Result<()> {
-    let refusal = fault.refusal();
-    println!(rt;
-        "refused {} {} {} {}",
-        refusal.number(),
-        refusal.word(),
-        fault.field().word(),
-        fault.place()
-    )
 }
 
 fn main(rt: HostRuntime) -> io::Result<()> {
@@ -50,6 +31,6 @@ fn main(rt: HostRuntime) -> io::Result<()> {
     rt.stdin().take(MOST_READ).read_to_end(&mut bytes)?;
     match read_frame::<Piece>(&bytes) {
         Ok(frame) => show(&rt, frame),
-        Err(fault) => show_fault(&rt, fault),
+        Err(fault) => println!(rt; "refused {fault}"),
     }
 }

@@ -1,0 +1,20 @@
+// Bytes as text, for service.
+ghost use Rattle.std.specs.Prelude.{Some};
+ghost use Rattle.frames.specs.Texts.{hex_text};
+
+use std::fmt;
+
+// Each byte is written as a space and two hexadecimal digits.
+#[derive(Clone, Copy)]
+pub struct HexBytes<'a>(pub &'a [u8]);
+
+impl fmt::Display for HexBytes<'_> {
+    ghost output = { λ x. Some (hex_text x.0.now) };
+
+    fn fmt<W: fmt::Write>(&self, f: &mut fmt::Formatter<W>) -> fmt::Result {
+        for byte in self.0 {
+            write!(f, " {:x}{:x}", byte >> 4, byte & 0xf)?;
+        }
+        Ok(())
+    }
+}
