@@ -7,7 +7,9 @@ use kinds::Kind;
 use numbers::Refusal;
 
 impl Kind for Vote {
-    ghost size = { 1 };
+    const SIZE: usize = 1;
+
+    ghost SIZE = { 1 };
 
     ghost image = { vote_image };
 
@@ -30,10 +32,6 @@ impl Kind for Vote {
     ghost transitive = { Prim.search rules };
 
     ghost antisymmetric = { Prim.search rules };
-
-    fn image_len() -> usize {
-        1
-    }
 
     fn image_number(self, i: usize) -> u32 {
         if i == 0 && self.yes { 1 } else { 0 }

@@ -38,7 +38,9 @@ impl Call {
 }
 
 impl Kind for Call {
-    ghost size = { 2 };
+    const SIZE: usize = 2;
+
+    ghost SIZE = { 2 };
 
     ghost image = { call_image };
 
@@ -61,10 +63,6 @@ impl Kind for Call {
     ghost transitive = { Prim.search rules };
 
     ghost antisymmetric = { call_antisymmetric };
-
-    fn image_len() -> usize {
-        2
-    }
 
     fn image_number(self, i: usize) -> u32 {
         match i {

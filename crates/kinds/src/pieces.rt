@@ -30,7 +30,9 @@ impl Piece {
 }
 
 impl Kind for Piece {
-    ghost size = { 1 };
+    const SIZE: usize = 1;
+
+    ghost SIZE = { 1 };
 
     ghost image = { piece_image };
 
@@ -53,10 +55,6 @@ impl Kind for Piece {
     ghost transitive = { Prim.search rules };
 
     ghost antisymmetric = { piece_antisymmetric };
-
-    fn image_len() -> usize {
-        1
-    }
 
     fn image_number(self, i: usize) -> u32 {
         match i {

@@ -8,7 +8,7 @@ use Rattle.kind_check.proofs.generic.echo.Goals.{After-read_frame}
 back : (g : given.Over) (c : After-read_frame g) → c.read_frame.result ≡ Ok c.args.frame
 back g c =
     let wrote = c.in_ok-len.ensures in
-    c.read_frame.ensures ∙ reads_back g.K.Kind.size g.K.Kind.image g.K.Kind.named c.args.frame c.in_ok-len.len c.args.out.now c.write_frame.new.out wrote.told _ (omega arith) c.frames_stand.ensures.back (omega arith, omega arith, omega arith) wrote.bytes
+    c.read_frame.ensures ∙ reads_back g.K.Kind.SIZE g.K.Kind.image g.K.Kind.named c.args.frame c.in_ok-len.len c.args.out.now c.write_frame.new.out wrote.told _ (omega arith) c.frames_stand.ensures.back (omega arith, omega arith, omega arith) wrote.bytes
 
 pub returns-in-Ok : goal.returns-in-Ok
 returns-in-Ok g c =
@@ -17,7 +17,7 @@ returns-in-Ok g c =
     let got = c.in-Ok.is in
     let same : c.in-Ok.back ≡ c.args.frame = cc in
     record {
-      told = rw (room g.K.Kind.size g.K.Kind.image g.K.Kind.named c.args.frame c.in_ok-len.len c.args.out.now c.write_frame.new.out wrote.told) (ap Ok same);
+      told = rw (room g.K.Kind.SIZE g.K.Kind.image g.K.Kind.named c.args.frame c.in_ok-len.len c.args.out.now c.write_frame.new.out wrote.told) (ap Ok same);
       bytes = wrote.bytes;
     }
 
