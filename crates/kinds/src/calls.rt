@@ -9,6 +9,7 @@ ghost use Rattle.kinds.specs.ValuesLemmas.{call_back, call_antisymmetric};
 use super::kind::Kind;
 use super::proposals::{Call, Piece};
 use numbers::Refusal;
+use std::cmp::Reverse;
 
 const LEAST_RANK: u8 = 1;
 
@@ -82,6 +83,6 @@ impl Kind for Call {
     }
 
     fn may_go_first(self, other: Call) -> bool {
-        other.rank < self.rank || (other.rank == self.rank && self.piece.may_go_first(other.piece))
+        (Reverse(self.rank), self.piece) <= (Reverse(other.rank), other.piece)
     }
 }

@@ -71,6 +71,6 @@ impl Kind for Piece {
     }
 
     fn may_go_first(self, other: Piece) -> bool {
-        other.number >= self.number
+        self <= other
     }
 }
