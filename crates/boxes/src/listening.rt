@@ -66,7 +66,7 @@ impl<K: Kind> Listening<K> {
 
     // The frame that the bytes hold, or its fault with the open round.
     fn read(self, bytes: &[u8]) -> Result<Frame<K>, RoundFault>
-        ensures { result ≡ result_map_both (λ f. f) (in_round self.at.held) (read_frame K.size K.named bytes.now) }
+        ensures { result ≡ result_map_both (λ f. f) (in_round self.at.held) (read_frame K.SIZE K.named bytes.now) }
     {
         read_frame::<K>(bytes).map_err(|fault| RoundFault {
             round: self.round(),
@@ -108,9 +108,9 @@ impl<K: Kind> Listening<K> {
 
     // Hears the frame that the bytes hold; where it is refused the box stays as it was.
     pub fn hear(&mut self, bytes: &[u8]) -> Result<(), BoxFault>
-        ensures told { result ≡ result_map_both (λ _. tt) (λ e. e) (hearing K.leads K.size K.named self.old.at.held self.old.notes bytes.now) }
+        ensures told { result ≡ result_map_both (λ _. tt) (λ e. e) (hearing K.leads K.SIZE K.named self.old.at.held self.old.notes bytes.now) }
         ensures at { self.new.at ≡ self.old.at }
-        ensures notes { self.new.notes ≡ result_unwrap_or (hearing K.leads K.size K.named self.old.at.held self.old.notes bytes.now) self.old.notes }
+        ensures notes { self.new.notes ≡ result_unwrap_or (hearing K.leads K.SIZE K.named self.old.at.held self.old.notes bytes.now) self.old.notes }
     {
         let frame = self.read(bytes)?;
         let frame = self.judge(frame)?;

@@ -10,10 +10,10 @@ use kinds::Kind;
 pub fn boxes_stand<K: Kind>() -> u8
     ensures zero { result ≡ 0 }
     ensures determined { BoxDetermined K }
-    ensures short { FrameShort K.size K.image K.named K.leads }
-    ensures closes { ClosesByRule K.size K.image K.named K.leads }
-    ensures order { OrderFree K.size K.image K.named K.leads }
-    ensures agree { ComposedHeard K.size K.image K.named K.leads }
+    ensures short { FrameShort K.SIZE K.image K.named K.leads }
+    ensures closes { ClosesByRule K.SIZE K.image K.named K.leads }
+    ensures order { OrderFree K.SIZE K.image K.named K.leads }
+    ensures agree { ComposedHeard K.SIZE K.image K.named K.leads }
 {
     let _ = frames_stand::<K>();
     0

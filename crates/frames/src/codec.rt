@@ -22,7 +22,7 @@ fn frame_numbers<K: Kind>(frame: Frame<K>) -> ([u32; 7], usize)
         estimate,
     } = frame;
     let mut numbers = [round.0, sender.0, missing.mask(), 0, 0, 0, 0];
-    let count = K::image_len();
+    let count = K::SIZE;
     for i in 0..count {
         numbers[3 + i] = estimate.image_number(i);
     }
@@ -73,10 +73,10 @@ fn read_head(bytes: &[u8]) -> Result<Head, FrameFault>
 
 // The proposal whose image begins at a place, and the place behind it.
 fn read_proposal<K: Kind>(bytes: &[u8], at: usize) -> Result<(K, usize), FrameFault>
-    ensures { result ≡ read_proposal K.size K.named bytes.now at }
+    ensures { result ≡ read_proposal K.SIZE K.named bytes.now at }
 {
     let mut image = [0; 4];
-    let count = K::image_len();
+    let count = K::SIZE;
     let mut next = at;
     for i in 0..count {
         let number = read_field(bytes, next, Field::Image)?;
@@ -91,7 +91,7 @@ fn read_proposal<K: Kind>(bytes: &[u8], at: usize) -> Result<(K, usize), FrameFa
 
 // The frame that the bytes hold, all of them.
 pub fn read_frame<K: Kind>(bytes: &[u8]) -> Result<Frame<K>, FrameFault>
-    ensures { result ≡ read_frame K.size K.named bytes.now }
+    ensures { result ≡ read_frame K.SIZE K.named bytes.now }
 {
     let head = read_head(bytes)?;
     let (estimate, end) = read_proposal::<K>(bytes, head.next)?;

@@ -9,12 +9,12 @@ use kinds::Kind;
 // long a frame can be.
 pub fn frames_stand<K: Kind>() -> u8
     ensures zero { result ≡ 0 }
-    ensures back { FrameBack K.size K.image K.named }
-    ensures only { FrameOnly K.size K.image K.named }
-    ensures number { FrameNumber K.size K.image K.named }
-    ensures image { FrameImage K.size K.image K.named }
-    ensures surplus { FrameSurplus K.size K.image K.named }
-    ensures len { FrameLength K.size K.image K.named }
+    ensures back { FrameBack K.SIZE K.image K.named }
+    ensures only { FrameOnly K.SIZE K.image K.named }
+    ensures number { FrameNumber K.SIZE K.image K.named }
+    ensures image { FrameImage K.SIZE K.image K.named }
+    ensures surplus { FrameSurplus K.SIZE K.image K.named }
+    ensures len { FrameLength K.SIZE K.image K.named }
 {
     0
 }

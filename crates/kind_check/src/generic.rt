@@ -1,7 +1,7 @@
 // Code over any kind.
 ghost use Rattle.std.specs.Prelude.{◌≡◌, true, length, if◌then◌else◌, Ok, Err, nat_le, slice_index_or};
 ghost use Rattle.numbers.specs.declared.refusal.Refusal.TheVariants.{Narrow};
-ghost use Rattle.kinds.specs.Orders.{sooner, foremost};
+ghost use Rattle.kinds.specs.Orders.{foremost};
 ghost use Rattle.frames.specs.Frames.{frame_bytes};
 ghost use Rattle.numbers.specs.Numbers.{fronted};
 
@@ -9,25 +9,14 @@ use frames::{Frame, frames_stand, read_frame, write_frame};
 use kinds::Kind;
 use numbers::Refusal;
 
-// The one that goes first of a proposal and of the first so far.
-fn first_of<K: Kind>(so_far: Option<K>, x: K) -> K
-    ensures { result ≡ sooner K.leads so_far x }
-{
-    match so_far {
-        None => x,
-        Some(y) => { if x.goes_before(y) { x } else { y } }
-    }
-}
-
 // The proposal that goes first.
 pub fn leader<K: Kind>(proposals: &[K]) -> Option<K>
     ensures { (d : K) → result ≡ foremost K.leads (λ _. true) (λ k. slice_index_or proposals.now k d) (length proposals.now) }
 {
-    let mut first = None;
-    for x in proposals {
-        first = Some(first_of(first, *x));
-    }
-    first
+    proposals
+        .iter()
+        .copied()
+        .reduce(|first, x| if x.goes_before(first) { x } else { first })
 }
 
 // Writes a frame and reads it again: the same frame, or a refusal for want of room.
@@ -37,8 +26,5 @@ pub fn echo<K: Kind>(frame: Frame<K>, out: &mut [u8]) -> Result<Frame<K>, Refusa
 {
     let _ = frames_stand::<K>();
     let len = write_frame(frame, out)?;
-    match read_frame::<K>(&out[0..len]) {
-        Ok(back) => Ok(back),
-        Err(fault) => Err(fault.refusal()),
-    }
+    read_frame::<K>(&out[..len]).map_err(|fault| fault.refusal())
 }

@@ -7,7 +7,9 @@ use kinds::Kind;
 use numbers::Refusal;
 
 impl Kind for Vote {
-    ghost size = { 1 };
+    const SIZE: usize = 1;
+
+    ghost SIZE = { 1 };
 
     ghost image = { vote_image };
 
@@ -31,24 +33,22 @@ impl Kind for Vote {
 
     ghost antisymmetric = { Prim.search rules };
 
-    fn image_len() -> usize {
-        1
-    }
-
     fn image_number(self, i: usize) -> u32 {
-        if i == 0 && self.yes { 1 } else { 0 }
+        match i {
+            0 => u32::from(self.yes),
+            _ => 0,
+        }
     }
 
     fn from_image(numbers: &[u32]) -> Result<Vote, Refusal> {
-        if numbers.len() != 1 || numbers[0] > 1 {
-            return Err(Refusal::Image);
+        match numbers {
+            [0] => Ok(Vote { yes: false }),
+            [1] => Ok(Vote { yes: true }),
+            _ => Err(Refusal::Image),
         }
-        Ok(Vote {
-            yes: numbers[0] == 1,
-        })
     }
 
     fn may_go_first(self, other: Vote) -> bool {
-        self.yes || !other.yes
+        self.yes >= other.yes
     }
 }

@@ -9,16 +9,17 @@ ghost use Rattle.kinds.specs.ValuesLemmas.{call_back, call_antisymmetric};
 use super::kind::Kind;
 use super::proposals::{Call, Piece};
 use numbers::Refusal;
+use std::cmp::Reverse;
 
-const LEAST_RANK: u32 = 1;
+const LEAST_RANK: u8 = 1;
 
-const MOST_RANK: u32 = 9;
+const MOST_RANK: u8 = 9;
 
 impl Call {
     pub fn new(rank: u8, piece: Piece) -> Result<Call, Refusal>
         ensures { result ≡ ok_or (call_at rank (Some piece)) Image }
     {
-        if (rank as u32) < LEAST_RANK || rank as u32 > MOST_RANK {
+        if !(LEAST_RANK..=MOST_RANK).contains(&rank) {
             return Err(Refusal::Image);
         }
         Ok(Call { rank, piece })
@@ -38,7 +39,9 @@ impl Call {
 }
 
 impl Kind for Call {
-    ghost size = { 2 };
+    const SIZE: usize = 2;
+
+    ghost SIZE = { 2 };
 
     ghost image = { call_image };
 
@@ -62,33 +65,24 @@ impl Kind for Call {
 
     ghost antisymmetric = { call_antisymmetric };
 
-    fn image_len() -> usize {
-        2
-    }
-
     fn image_number(self, i: usize) -> u32 {
         match i {
-            0 => self.rank as u32,
+            0 => u32::from(self.rank),
             _ => self.piece.image_number(i - 1),
         }
     }
 
     fn from_image(numbers: &[u32]) -> Result<Call, Refusal> {
-        if numbers.len() != 2 {
-            return Err(Refusal::Image);
+        match numbers {
+            [rank, rest @ ..] => {
+                let rank = u8::try_from(*rank).map_err(|_| Refusal::Image)?;
+                Call::new(rank, Piece::from_image(rest)?)
+            }
+            [] => Err(Refusal::Image),
         }
-        let rank = numbers[0];
-        if rank < LEAST_RANK || rank > MOST_RANK {
-            return Err(Refusal::Image);
-        }
-        let piece = Piece::from_image(&numbers[1..])?;
-        Ok(Call {
-            rank: rank as u8,
-            piece,
-        })
     }
 
     fn may_go_first(self, other: Call) -> bool {
-        other.rank < self.rank || (other.rank == self.rank && self.piece.may_go_first(other.piece))
+        (Reverse(self.rank), self.piece) <= (Reverse(other.rank), other.piece)
     }
 }

@@ -9,7 +9,9 @@ use numbers::Refusal;
 
 pub trait Kind: Copy {
     // How many numbers an image has.
-    ghost size: { ℕ };
+    const SIZE: usize;
+
+    ghost SIZE: { ℕ };
 
     ghost image: { Self → List ℕ };
 
@@ -18,9 +20,6 @@ pub trait Kind: Copy {
 
     // That of the two the first may go first.
     ghost leads: { Self → Self → Bool };
-
-    fn image_len() -> usize
-        ensures { result ≡ size };
 
     // The number at a place of the image, and 0 past its end.
     fn image_number(self, i: usize) -> u32
@@ -40,9 +39,16 @@ pub trait Kind: Copy {
         self.may_go_first(other) && !other.may_go_first(self)
     }
 
-    ghost sized: { (1 ≤ size) × (size ≤ 4) };
+    // The size, as a call.
+    final fn image_len() -> usize
+        ensures { result ≡ SIZE }
+    {
+        Self::SIZE
+    }
 
-    ghost long: { (x : Self) → length (image x) ≡ size };
+    ghost sized: { (1 ≤ SIZE) × (SIZE ≤ 4) };
+
+    ghost long: { (x : Self) → length (image x) ≡ SIZE };
 
     ghost small: { (x : Self) → AllByRecursion (λ n. n < 268435456) (image x) };
 

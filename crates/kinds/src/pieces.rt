@@ -10,13 +10,13 @@ use super::kind::Kind;
 use super::proposals::Piece;
 use numbers::Refusal;
 
-const MOST: u32 = 16383;
+const MOST: u16 = 16383;
 
 impl Piece {
     pub fn new(number: u16) -> Result<Piece, Refusal>
         ensures { result ≡ ok_or (piece_at number) Image }
     {
-        if number as u32 > MOST {
+        if number > MOST {
             return Err(Refusal::Image);
         }
         Ok(Piece { number })
@@ -30,7 +30,9 @@ impl Piece {
 }
 
 impl Kind for Piece {
-    ghost size = { 1 };
+    const SIZE: usize = 1;
+
+    ghost SIZE = { 1 };
 
     ghost image = { piece_image };
 
@@ -54,27 +56,21 @@ impl Kind for Piece {
 
     ghost antisymmetric = { piece_antisymmetric };
 
-    fn image_len() -> usize {
-        1
-    }
-
     fn image_number(self, i: usize) -> u32 {
         match i {
-            0 => self.number as u32,
+            0 => u32::from(self.number),
             _ => 0,
         }
     }
 
     fn from_image(numbers: &[u32]) -> Result<Piece, Refusal> {
-        if numbers.len() != 1 || numbers[0] > MOST {
-            return Err(Refusal::Image);
+        match numbers {
+            [number] => Piece::new(u16::try_from(*number).map_err(|_| Refusal::Image)?),
+            _ => Err(Refusal::Image),
         }
-        Ok(Piece {
-            number: numbers[0] as u16,
-        })
     }
 
     fn may_go_first(self, other: Piece) -> bool {
-        other.number >= self.number
+        self <= other
     }
 }

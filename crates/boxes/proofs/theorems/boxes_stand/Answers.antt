@@ -10,8 +10,8 @@ returns g c =
     record {
       zero = omega arith;
       determined = box_determined;
-      short = λ b. frame_short b k.size k.image k.named m.sized.1 c.frames_stand.ensures.len;
-      closes = closes_by_rule k.size k.image k.named k.leads m.total m.transitive m.antisymmetric;
-      order = order_free k.size k.image k.named k.leads m.total m.transitive m.antisymmetric;
-      agree = composed_heard k.size k.image k.named k.leads m.total m.transitive m.antisymmetric c.frames_stand.ensures.back;
+      short = λ b. frame_short b k.SIZE k.image k.named m.sized.1 c.frames_stand.ensures.len;
+      closes = closes_by_rule k.SIZE k.image k.named k.leads m.total m.transitive m.antisymmetric;
+      order = order_free k.SIZE k.image k.named k.leads m.total m.transitive m.antisymmetric;
+      agree = composed_heard k.SIZE k.image k.named k.leads m.total m.transitive m.antisymmetric c.frames_stand.ensures.back;
     }

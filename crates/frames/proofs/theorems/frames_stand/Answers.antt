@@ -8,10 +8,10 @@ returns g c =
     let m = g.met.K.Kind in
     record {
       zero = refl;
-      back = frame_back k.size k.image k.named m.long m.small m.back;
-      only = frame_only k.size k.image k.named m.only;
-      number = frame_number k.size k.image k.named;
-      image = frame_image k.size k.image k.named;
-      surplus = frame_surplus k.size k.image k.named m.long m.small m.back;
-      len = frame_length k.size k.image k.named m.long m.small m.back;
+      back = frame_back k.SIZE k.image k.named m.long m.small m.back;
+      only = frame_only k.SIZE k.image k.named m.only;
+      number = frame_number k.SIZE k.image k.named;
+      image = frame_image k.SIZE k.image k.named;
+      surplus = frame_surplus k.SIZE k.image k.named m.long m.small m.back;
+      len = frame_length k.SIZE k.image k.named m.long m.small m.back;
     }

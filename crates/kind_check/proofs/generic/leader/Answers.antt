@@ -1,21 +1,29 @@
-use Rattle.std.proofs.Common.{◌≡◌, true, length, get_or, Some, refl, ap, ◌∙◌, add-one, arith}
-use Rattle.std.proofs.lemmas.List.{get_or_read}
-use Rattle.kinds.specs.Orders.{foremost}
+use Rattle.std.proofs.Common.{◌≡◌, ℕ, zero, suc, ◌≤◌, Bool, true, List, [], ◌∷◌, length, get_or, take, Some, refl, ap, ◌∙◌, add-one, rules, arith}
+use Rattle.std.specs.List.{fold, reduce}
+use Rattle.std.proofs.Math.Seq.{take-length}
+use Rattle.std.proofs.lemmas.List.Sums.{fold_more}
+use Rattle.kinds.specs.Orders.{sooner, foremost}
 use Rattle.kind_check.proofs.generic.leader.Goals as goal
 
-pub loop-x-init : goal.loop-x-init
-unfolding foremost
-loop-x-init g c d = refl
+module _ {V : Type 0} (leads : V → V → Bool) where
+  -- x against the first so far
+  abbrev step : V → V → V
+  step first x = sooner leads (Some first) x
 
-pub loop-x-preserved : goal.loop-x-preserved
-unfolding foremost
-loop-x-preserved g c d =
-    let read = get_or_read c.args.proposals.now c.loop-x.x-index c.x-item.result c.loop-x-test.true c.x-item.is d in
-    let first = c.first_of.ensures in
-    let so_far = c.loop-x.invariant d in
-    rw (add-one c.loop-x.x-index) (ap Some (grind arith))
+  -- of x and the n behind it
+  folded : (x d : V) (xs : List V) (n : ℕ) → n ≤ length xs → Some (fold step x (take n xs)) ≡ foremost leads (λ _. true) (λ k. get_or (x ∷ xs) k d) (suc n)
+  unfolding foremost
+  folded x d xs zero l = refl
+  folded x d xs (suc n) l =
+      let more = rw add-one at (fold_more step x xs n d (omega arith)) in
+      ap Some more ∙ ap (λ o. Some (sooner leads o (get_or xs n d))) (folded x d xs n (omega arith))
+
+  reduced : (xs : List V) (d : V) → reduce step xs ≡ foremost leads (λ _. true) (λ k. get_or xs k d) (length xs)
+  unfolding foremost
+  reduced [] d = refl
+  reduced (x ∷ xs) d = rw take-length at (folded x d xs (length xs) (omega arith))
 
 pub returns : goal.returns
 returns g c d =
-    let all : c.loop-x.x-index ≡ length c.args.proposals.now = omega (arith, c.loop-x.auto.x-index-end) in
-    c.loop-x.invariant d ∙ ap (foremost g.K.Kind.leads (λ _. true) (λ k. get_or c.args.proposals.now k d)) all
+    let is : c.reduce.result ≡ reduce (step g.K.Kind.leads) c.args.proposals.now = search rules in
+    is ∙ reduced g.K.Kind.leads c.args.proposals.now d

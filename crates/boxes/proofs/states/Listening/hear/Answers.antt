@@ -10,7 +10,7 @@ returns-in_err-frame-2 g c =
     let p = err_from_is_err_and c.from_residual-in_err-frame-2.result c.from_residual-in_err-frame-2.ensures.1 in
     let b = c.args.self.now.at.held in
     let m = c.args.self.now.notes in
-    let h = refused_by_box g.K.Kind.leads g.K.Kind.size g.K.Kind.named b m c.args.bytes.now c.in_ok-frame.frame c.in_err-frame-2.field-0.0 c.in_ok-frame.ensures c.in_err-frame-2.ensures in
+    let h = refused_by_box g.K.Kind.leads g.K.Kind.SIZE g.K.Kind.named b m c.args.bytes.now c.in_ok-frame.frame c.in_err-frame-2.field-0.0 c.in_ok-frame.ensures c.in_err-frame-2.ensures in
     rw h (rw (p.1, p.2) record { told = refl; at = refl; notes = refl })
 
 pub invariant_of-self : goal.invariant_of-self
