@@ -1,53 +1,35 @@
 // Boxes of pieces, made, told frames in bytes, and closed.
 use boxes::{BoxFault, Closed, Listening, Resting};
+use frames::Field;
 use kinds::Piece;
 use numbers::Refusal;
 use sets::{BoxNumber, BoxSet, RoundNumber};
 use std::process::Abort;
 use std::test::Fail;
 
-fn make(number: u32, n: u32, t: u32, piece: u16) -> Result<Resting<Piece>, Refusal> {
+fn made(number: u32, n: u32, t: u32, piece: u16) -> Result<Resting<Piece>, Refusal> {
     Resting::new(BoxNumber(number), n, t, Piece::new(piece)?)
 }
 
-fn made(number: u32, n: u32, t: u32, piece: u16) -> Result<Resting<Piece>, Fail> {
-    match make(number, n, t, piece) {
-        Ok(b) => Ok(b),
-        Err(refusal) => Err(Fail::new(refusal.word())),
-    }
-}
-
-fn making_refuses(rt: &impl Abort, number: u32, n: u32, t: u32, refusal: u8) -> Result<(), Fail> {
-    match make(number, n, t, 20) {
-        Ok(_) => Err(Fail::new("it was made")),
-        Err(e) => {
-            assert!(rt; e.number() == refusal);
-            Ok(())
-        },
-    }
-}
-
-fn hears(ear: &mut Listening<Piece>, bytes: &[u8]) -> Result<(), Fail> {
-    match ear.hear(bytes) {
-        Ok(()) => Ok(()),
-        Err(fault) => Err(Fail::new(fault.refusal().word())),
-    }
+fn making_refuses(
+    rt: &impl Abort,
+    number: u32,
+    n: u32,
+    t: u32,
+    refusal: Refusal,
+) -> Result<(), Fail> {
+    let found = made(number, n, t, 20).err().ok_or("it was made")?;
+    assert_eq!(rt; found, refusal);
+    Ok(())
 }
 
 // The box opens its next round and hears these frames.
-fn opened(b: Resting<Piece>, frames: &[[u8; 4]]) -> Result<Listening<Piece>, Fail> {
+fn opened(b: Resting<Piece>, frames: &[[u8; 4]]) -> Result<Listening<Piece>, BoxFault> {
     let mut ear = b.open();
     for frame in frames {
-        hears(&mut ear, frame)?;
+        ear.hear(frame)?;
     }
     Ok(ear)
-}
-
-fn fault_of(ear: &mut Listening<Piece>, bytes: &[u8]) -> Result<BoxFault, Fail> {
-    match ear.hear(bytes) {
-        Ok(()) => Err(Fail::new("it was heard")),
-        Err(fault) => Ok(fault),
-    }
 }
 
 // The box itself refuses the frame.
@@ -56,11 +38,11 @@ fn refuses(
     ear: &mut Listening<Piece>,
     bytes: &[u8],
     round: u32,
-    refusal: u8,
+    refusal: Refusal,
 ) -> Result<(), Fail> {
-    let fault = fault_of(ear, bytes)?;
-    assert!(rt; fault.refusal().number() == refusal);
-    assert!(rt; fault.round() == RoundNumber(round));
+    let fault = ear.hear(bytes).err().ok_or("it was heard")?;
+    assert_eq!(rt; fault.refusal(), refusal);
+    assert_eq!(rt; fault.round(), RoundNumber(round));
     assert!(rt; fault.field().is_none() && fault.place().is_none());
     Ok(())
 }
@@ -70,43 +52,36 @@ fn refuses_frame(
     rt: &impl Abort,
     ear: &mut Listening<Piece>,
     bytes: &[u8],
-    refusal: u8,
-    field: &str,
+    refusal: Refusal,
+    field: Field,
     place: usize,
 ) -> Result<(), Fail> {
-    let fault = fault_of(ear, bytes)?;
-    assert!(rt; fault.refusal().number() == refusal);
-    assert!(rt; fault.round() == RoundNumber(1));
-    assert!(rt; fault.place() == Some(place));
-    match fault.field() {
-        Some(found) => {
-            assert!(rt; found.word() == field);
-            Ok(())
-        },
-        None => Err(Fail::new("no field")),
-    }
+    let fault = ear.hear(bytes).err().ok_or("it was heard")?;
+    assert_eq!(rt; fault.refusal(), refusal);
+    assert_eq!(rt; fault.round(), RoundNumber(1));
+    assert_eq!(rt; fault.field(), Some(field));
+    assert_eq!(rt; fault.place(), Some(place));
+    Ok(())
+}
+
+fn closed(ear: Listening<Piece>) -> Result<Closed<Piece>, BoxFault> {
+    ear.close().map_err(|(_, fault)| fault)
 }
 
 fn rests(ear: Listening<Piece>) -> Result<Resting<Piece>, Fail> {
-    match ear.close() {
-        Ok(closed) => match closed {
-            Closed::Rests(b) => Ok(b),
-            Closed::Rings { .. } => Err(Fail::new("it rings")),
-        },
-        Err(refused) => Err(Fail::new(refused.1.refusal().word())),
+    match closed(ear)? {
+        Closed::Rests(b) => Ok(b),
+        Closed::Rings { .. } => Err(Fail::new("it rings")),
     }
 }
 
 fn rings(rt: &impl Abort, ear: Listening<Piece>, round: u32, piece: u16) -> Result<(), Fail> {
-    match ear.close() {
-        Ok(closed) => match closed {
-            Closed::Rests(_) => Err(Fail::new("it rests")),
-            Closed::Rings { round: r, proposal } => {
-                assert!(rt; r == RoundNumber(round) && proposal.number() == piece);
-                Ok(())
-            }
-        },
-        Err(refused) => Err(Fail::new(refused.1.refusal().word())),
+    match closed(ear)? {
+        Closed::Rests(_) => Err(Fail::new("it rests")),
+        Closed::Rings { round: r, proposal } => {
+            assert!(rt; r == RoundNumber(round) && proposal.number() == piece);
+            Ok(())
+        }
     }
 }
 
@@ -116,14 +91,10 @@ fn still_listens(
     ear: Listening<Piece>,
     round: u32,
 ) -> Result<Listening<Piece>, Fail> {
-    match ear.close() {
-        Ok(_) => Err(Fail::new("it was closed")),
-        Err(refused) => {
-            assert!(rt; refused.1.refusal().number() == 10);
-            assert!(rt; refused.1.round() == RoundNumber(round));
-            Ok(refused.0)
-        }
-    }
+    let (ear, fault) = ear.close().err().ok_or("it was closed")?;
+    assert_eq!(rt; fault.refusal(), Refusal::Tally);
+    assert_eq!(rt; fault.round(), RoundNumber(round));
+    Ok(ear)
 }
 
 fn holds(rt: &impl Abort, b: Resting<Piece>, closed: u32, piece: u16, missing: u32, horizon: u32) {
@@ -138,13 +109,13 @@ fn made_boxes(rt: HostRuntime) -> Result<(), Fail> {
     let b = made(3, 4, 2, 20)?;
     assert!(rt; b.number() == BoxNumber(3) && b.n() == 4 && b.t() == 2);
     holds(&rt, b, 0, 20, 0, 3);
-    making_refuses(&rt, 0, 1, 1, 11)?;
-    making_refuses(&rt, 0, 33, 1, 11)?;
-    making_refuses(&rt, 0, 4, 0, 11)?;
-    making_refuses(&rt, 0, 4, 4, 11)?;
-    making_refuses(&rt, 4, 4, 2, 5)?;
+    making_refuses(&rt, 0, 1, 1, Refusal::Company)?;
+    making_refuses(&rt, 0, 33, 1, Refusal::Company)?;
+    making_refuses(&rt, 0, 4, 0, Refusal::Company)?;
+    making_refuses(&rt, 0, 4, 4, Refusal::Company)?;
+    making_refuses(&rt, 4, 4, 2, Refusal::Stranger)?;
     // The company before the number.
-    making_refuses(&rt, 4, 4, 4, 11)?;
+    making_refuses(&rt, 4, 4, 4, Refusal::Company)?;
     let last = made(31, 32, 31, 20)?;
     holds(&rt, last, 0, 20, 0, 32);
     Ok(())
@@ -154,65 +125,81 @@ fn made_boxes(rt: HostRuntime) -> Result<(), Fail> {
 fn composed_frames(rt: HostRuntime) -> Result<(), Fail> {
     let b = made(3, 4, 2, 200)?;
     let mut out = [0xaa; 6];
-    match b.compose(&mut out) {
-        Ok(len) => assert!(rt; len == 5 && out == *b"\x01\x03\x00\x81\x48\xaa"),
-        Err(refusal) => return Err(Fail::new(refusal.word())),
-    }
+    let len = b.compose(&mut out)?;
+    assert!(rt; len == 5 && out == *b"\x01\x03\x00\x81\x48\xaa");
     let mut short = [0xaa; 4];
-    match b.compose(&mut short) {
-        Ok(_) => Err(Fail::new("it was composed")),
-        Err(refusal) => {
-            assert!(rt; refusal.number() == 19 && short == [0xaa; 4]);
-            Ok(())
-        },
-    }
+    let refusal = b.compose(&mut short).err().ok_or("it was composed")?;
+    assert!(rt; refusal == Refusal::Narrow && short == [0xaa; 4]);
+    Ok(())
 }
 
 #[test]
 fn frames_at_fault(rt: HostRuntime) -> Result<(), Fail> {
     let mut ear = made(0, 4, 2, 30)?.open();
-    refuses_frame(&rt, &mut ear, b"\x01\x01", 1, "set", 2)?;
+    refuses_frame(&rt, &mut ear, b"\x01\x01", Refusal::Short, Field::Set, 2)?;
     refuses_frame(
         &rt,
         &mut ear,
         b"\x01\x90\x80\x80\x80\x00\x00\x14",
-        2,
-        "sender",
+        Refusal::Wide,
+        Field::Sender,
         1,
     )?;
-    refuses_frame(&rt, &mut ear, b"\x80\x01\x01\x00\x14", 3, "round", 0)?;
-    refuses_frame(&rt, &mut ear, b"\x01\x01\x00\x14\x00", 4, "end", 4)?;
-    refuses_frame(&rt, &mut ear, b"\x01\x01\x00\x81\x80\x00", 9, "image", 3)
+    refuses_frame(
+        &rt,
+        &mut ear,
+        b"\x80\x01\x01\x00\x14",
+        Refusal::Padded,
+        Field::Round,
+        0,
+    )?;
+    refuses_frame(
+        &rt,
+        &mut ear,
+        b"\x01\x01\x00\x14\x00",
+        Refusal::Surplus,
+        Field::End,
+        4,
+    )?;
+    refuses_frame(
+        &rt,
+        &mut ear,
+        b"\x01\x01\x00\x81\x80\x00",
+        Refusal::Image,
+        Field::Image,
+        3,
+    )
 }
 
 #[test]
 fn frames_refused_by_the_box(rt: HostRuntime) -> Result<(), Fail> {
     let mut ear = made(0, 4, 2, 30)?.open();
-    refuses(&rt, &mut ear, b"\x02\x01\x00\x14", 1, 6)?;
-    refuses(&rt, &mut ear, b"\x01\x04\x00\x14", 1, 5)?;
+    assert_eq!(rt; ear.number(), BoxNumber(0));
+    refuses(&rt, &mut ear, b"\x02\x01\x00\x14", 1, Refusal::OffBeat)?;
+    refuses(&rt, &mut ear, b"\x01\x04\x00\x14", 1, Refusal::Stranger)?;
     // Its own frame.
-    refuses(&rt, &mut ear, b"\x01\x00\x00\x1e", 1, 7)?;
-    hears(&mut ear, b"\x01\x01\x00\x14")?;
+    refuses(&rt, &mut ear, b"\x01\x00\x00\x1e", 1, Refusal::Heard)?;
+    ear.hear(b"\x01\x01\x00\x14")?;
     // A frame heard twice.
-    refuses(&rt, &mut ear, b"\x01\x01\x00\x14", 1, 7)?;
+    refuses(&rt, &mut ear, b"\x01\x01\x00\x14", 1, Refusal::Heard)?;
     // A bit from n on.
-    refuses(&rt, &mut ear, b"\x01\x02\x10\x0a", 1, 8)?;
+    refuses(&rt, &mut ear, b"\x01\x02\x10\x0a", 1, Refusal::Set)?;
     // The sender's bit.
-    refuses(&rt, &mut ear, b"\x01\x02\x04\x0a", 1, 8)?;
+    refuses(&rt, &mut ear, b"\x01\x02\x04\x0a", 1, Refusal::Set)?;
     // The hearer's bit.
-    refuses(&rt, &mut ear, b"\x01\x02\x01\x0a", 1, 8)?;
+    refuses(&rt, &mut ear, b"\x01\x02\x01\x0a", 1, Refusal::Set)?;
     // The round first.
-    refuses(&rt, &mut ear, b"\x02\x04\x10\x0a", 1, 6)?;
+    refuses(&rt, &mut ear, b"\x02\x04\x10\x0a", 1, Refusal::OffBeat)?;
     // Then the sender.
-    refuses(&rt, &mut ear, b"\x01\x04\x11\x0a", 1, 5)?;
+    refuses(&rt, &mut ear, b"\x01\x04\x11\x0a", 1, Refusal::Stranger)?;
     // Then who was heard, before the set.
-    refuses(&rt, &mut ear, b"\x01\x01\x10\x0a", 1, 7)?;
+    refuses(&rt, &mut ear, b"\x01\x01\x10\x0a", 1, Refusal::Heard)?;
     let b = rests(ear)?;
     holds(&rt, b, 1, 20, 0x0c, 3);
     let mut ear = b.open();
-    refuses(&rt, &mut ear, b"\x02\x02\x00\x0a", 2, 14)?;
+    refuses(&rt, &mut ear, b"\x02\x02\x00\x0a", 2, Refusal::Down)?;
     // Who is missing, before the set.
-    refuses(&rt, &mut ear, b"\x02\x03\x01\x0a", 2, 14)
+    refuses(&rt, &mut ear, b"\x02\x03\x01\x0a", 2, Refusal::Down)
 }
 
 #[test]
@@ -220,8 +207,8 @@ fn too_many_missing(rt: HostRuntime) -> Result<(), Fail> {
     let ear = opened(made(0, 4, 1, 30)?, &[*b"\x01\x01\x00\x14"])?;
     let mut ear = still_listens(&rt, ear, 1)?;
     // What was heard stays heard.
-    refuses(&rt, &mut ear, b"\x01\x01\x00\x14", 1, 7)?;
-    hears(&mut ear, b"\x01\x02\x00\x0a")?;
+    refuses(&rt, &mut ear, b"\x01\x01\x00\x14", 1, Refusal::Heard)?;
+    ear.hear(b"\x01\x02\x00\x0a")?;
     holds(&rt, rests(ear)?, 1, 10, 0x08, 2);
     Ok(())
 }
@@ -233,7 +220,7 @@ fn a_box_heard_is_told_missing(rt: HostRuntime) -> Result<(), Fail> {
         &[*b"\x01\x01\x04\x14", *b"\x01\x02\x00\x0a"],
     )?;
     let mut ear = still_listens(&rt, ear, 1)?;
-    hears(&mut ear, b"\x01\x03\x00\x28")?;
+    ear.hear(b"\x01\x03\x00\x28")?;
     let _ = still_listens(&rt, ear, 1)?;
     Ok(())
 }

@@ -1,62 +1,43 @@
 // Frames, read and written.
-use frames::{Frame, read_frame, write_frame};
+use frames::{Field, Frame, HexBytes, read_frame, write_frame};
 use kinds::{Call, Kind, Piece};
 use numbers::Refusal;
 use sets::{BoxNumber, BoxSet, RoundNumber};
+use std::fmt::Debug;
 use std::process::Abort;
 use std::test::Fail;
 
-fn accepted<T>(r: Result<T, Refusal>) -> Result<T, Fail> {
-    match r {
-        Ok(x) => Ok(x),
-        Err(refusal) => Err(Fail::new(refusal.word())),
-    }
-}
-
 // The bytes hold the frame: they read as it, and it is written as them, with the byte behind left as it was.
-fn holds<K: Kind>(rt: &impl Abort, bytes: &[u8], frame: Frame<K>) -> Result<(), Fail> {
-    match read_frame::<K>(bytes) {
-        Ok(found) => {
-            assert!(rt;
-                found.round == frame.round
-                    && found.sender == frame.sender
-                    && found.missing == frame.missing
-            );
-            assert!(rt;
-                found.estimate.may_go_first(frame.estimate)
-                    && frame.estimate.may_go_first(found.estimate)
-            );
-        }
-        Err(fault) => return Err(Fail::new(fault.refusal().word())),
-    }
+fn holds<K: Kind + PartialEq + Debug>(
+    rt: &impl Abort,
+    bytes: &[u8],
+    frame: Frame<K>,
+) -> Result<(), Fail> {
+    assert_eq!(rt; read_frame::<K>(bytes)?, frame);
     let mut out = [0xaa; 32];
-    let len = accepted(write_frame(frame, &mut out))?;
+    let len = write_frame(frame, &mut out)?;
     assert!(rt; len == bytes.len() && len < out.len());
-    assert!(rt; &out[0..len] == bytes && out[len] == 0xaa);
+    assert!(rt; &out[..len] == bytes && out[len] == 0xaa);
     Ok(())
 }
 
 fn refuses<K: Kind>(
     rt: &impl Abort,
     bytes: &[u8],
-    refusal: u8,
-    field: &str,
+    refusal: Refusal,
+    field: Field,
     place: usize,
 ) -> Result<(), Fail> {
-    match read_frame::<K>(bytes) {
-        Ok(_) => Err(Fail::new("it was read")),
-        Err(fault) => {
-            assert!(rt; fault.refusal().number() == refusal);
-            assert!(rt; fault.field().word() == field);
-            assert!(rt; fault.place() == place);
-            Ok(())
-        }
-    }
+    let fault = read_frame::<K>(bytes).err().ok_or("it was read")?;
+    assert_eq!(rt; fault.refusal(), refusal);
+    assert_eq!(rt; fault.field(), field);
+    assert_eq!(rt; fault.place(), place);
+    Ok(())
 }
 
 #[test]
 fn frames_of_both_kinds(rt: HostRuntime) -> Result<(), Fail> {
-    let piece = accepted(Piece::new(20))?;
+    let piece = Piece::new(20)?;
     let round = RoundNumber(2);
     let sender = BoxNumber(0);
     let missing = BoxSet::empty().with(BoxNumber(2));
@@ -70,7 +51,7 @@ fn frames_of_both_kinds(rt: HostRuntime) -> Result<(), Fail> {
             estimate: piece,
         },
     )?;
-    let call = accepted(Call::new(9, piece))?;
+    let call = Call::new(9, piece)?;
     holds(
         &rt,
         b"\x02\x00\x04\x09\x14",
@@ -85,8 +66,8 @@ fn frames_of_both_kinds(rt: HostRuntime) -> Result<(), Fail> {
 
 #[test]
 fn longest_frames(rt: HostRuntime) -> Result<(), Fail> {
-    let piece = accepted(Piece::new(16383))?;
-    let call = accepted(Call::new(1, piece))?;
+    let piece = Piece::new(16383)?;
+    let call = Call::new(1, piece)?;
     let round = RoundNumber(u32::MAX);
     let sender = BoxNumber(u32::MAX);
     let missing = BoxSet::all_below(32);
@@ -113,31 +94,101 @@ fn longest_frames(rt: HostRuntime) -> Result<(), Fail> {
         frame,
     )?;
     let mut out = [0xaa; 17];
-    match write_frame(frame, &mut out) {
-        Ok(_) => Err(Fail::new("it was written")),
-        Err(refusal) => {
-            assert!(rt; refusal.number() == 19 && out == [0xaa; 17]);
-            Ok(())
-        },
-    }
+    let refusal = write_frame(frame, &mut out).err().ok_or("it was written")?;
+    assert!(rt; refusal == Refusal::Narrow && out == [0xaa; 17]);
+    Ok(())
 }
 
 #[test]
 fn faults_of_numbers(rt: HostRuntime) -> Result<(), Fail> {
-    refuses::<Piece>(&rt, b"", 1, "round", 0)?;
-    refuses::<Piece>(&rt, b"\x80\x00", 3, "round", 0)?;
-    refuses::<Piece>(&rt, b"\x02\x90\x80\x80\x80\x00", 2, "sender", 1)?;
-    refuses::<Piece>(&rt, b"\x81\x00\x00\x84", 1, "set", 3)?;
-    refuses::<Call>(&rt, b"\x02\x00\x04\x09\x80\x14", 3, "image", 4)
+    refuses::<Piece>(&rt, b"", Refusal::Short, Field::Round, 0)?;
+    refuses::<Piece>(&rt, b"\x80\x00", Refusal::Padded, Field::Round, 0)?;
+    refuses::<Piece>(
+        &rt,
+        b"\x02\x90\x80\x80\x80\x00",
+        Refusal::Wide,
+        Field::Sender,
+        1,
+    )?;
+    refuses::<Piece>(&rt, b"\x81\x00\x00\x84", Refusal::Short, Field::Set, 3)?;
+    refuses::<Call>(
+        &rt,
+        b"\x02\x00\x04\x09\x80\x14",
+        Refusal::Padded,
+        Field::Image,
+        4,
+    )
 }
 
 #[test]
 fn faults_of_frames(rt: HostRuntime) -> Result<(), Fail> {
-    refuses::<Piece>(&rt, b"\x02\x00\x04\x81\x80\x00", 9, "image", 3)?;
-    refuses::<Call>(&rt, b"\x02\x00\x04\x0a\x14", 9, "image", 3)?;
-    refuses::<Call>(&rt, b"\x02\x00\x04\x00\x14", 9, "image", 3)?;
+    refuses::<Piece>(
+        &rt,
+        b"\x02\x00\x04\x81\x80\x00",
+        Refusal::Image,
+        Field::Image,
+        3,
+    )?;
+    refuses::<Call>(
+        &rt,
+        b"\x02\x00\x04\x0a\x14",
+        Refusal::Image,
+        Field::Image,
+        3,
+    )?;
+    refuses::<Call>(
+        &rt,
+        b"\x02\x00\x04\x00\x14",
+        Refusal::Image,
+        Field::Image,
+        3,
+    )?;
     // The image before what follows it.
-    refuses::<Call>(&rt, b"\x02\x00\x04\x00\x14\x00", 9, "image", 3)?;
-    refuses::<Piece>(&rt, b"\x02\x00\x04\x14\x00", 4, "end", 4)?;
-    refuses::<Call>(&rt, b"\x02\x00\x04\x09\x14\x80\x00", 4, "end", 5)
+    refuses::<Call>(
+        &rt,
+        b"\x02\x00\x04\x00\x14\x00",
+        Refusal::Image,
+        Field::Image,
+        3,
+    )?;
+    refuses::<Piece>(
+        &rt,
+        b"\x02\x00\x04\x14\x00",
+        Refusal::Surplus,
+        Field::End,
+        4,
+    )?;
+    refuses::<Call>(
+        &rt,
+        b"\x02\x00\x04\x09\x14\x80\x00",
+        Refusal::Surplus,
+        Field::End,
+        5,
+    )
+}
+
+#[test]
+fn fields_have_words(rt: HostRuntime) {
+    let cases: [(Field, &str); 5] = [
+        (Field::Round, "round"),
+        (Field::Sender, "sender"),
+        (Field::Set, "set"),
+        (Field::Image, "image"),
+        (Field::End, "end"),
+    ];
+    for (field, word) in cases {
+        assert!(rt; field.word() == word);
+    }
+}
+
+#[test]
+fn faults_and_bytes_as_text(rt: HostRuntime) -> Result<(), Fail> {
+    let fault = read_frame::<Call>(b"\x02\x00\x04\x09\x80\x14")
+        .err()
+        .ok_or("it was read")?;
+    assert!(rt; format!(in rt.alloc(); "{fault}")?.as_str() == "3 padded image 4");
+    assert!(rt;
+        format!(in rt.alloc(); "bytes{}", HexBytes(b"\x02\xff"))?.as_str() == "bytes 02 ff"
+    );
+    Ok(())
 }

@@ -1,40 +1,30 @@
-// Numbers, read and written.
-use numbers::{read_number, write_number};
+// Numbers, read and written, and the refusals.
+use numbers::{Refusal, read_number, write_number};
 use std::process::Abort;
 use std::test::Fail;
 
 // The bytes are the number, all of them.
 fn reads(rt: &impl Abort, bytes: &[u8], value: u32) -> Result<(), Fail> {
-    match read_number(bytes, 0) {
-        Ok(number) => {
-            assert!(rt; number.value == value && number.next == bytes.len());
-            Ok(())
-        },
-        Err(fault) => Err(Fail::new(fault.refusal.word())),
-    }
+    let number = read_number(bytes, 0)?;
+    assert_eq!(rt; number.value, value);
+    assert_eq!(rt; number.next, bytes.len());
+    Ok(())
 }
 
-fn refuses(rt: &impl Abort, bytes: &[u8], at: usize, refusal: u8) -> Result<(), Fail> {
-    match read_number(bytes, at) {
-        Ok(_) => Err(Fail::new("it was read")),
-        Err(fault) => {
-            assert!(rt; fault.refusal.number() == refusal && fault.place == at);
-            Ok(())
-        },
-    }
+fn refuses(rt: &impl Abort, bytes: &[u8], at: usize, refusal: Refusal) -> Result<(), Fail> {
+    let fault = read_number(bytes, at).err().ok_or("it was read")?;
+    assert_eq!(rt; fault.refusal, refusal);
+    assert_eq!(rt; fault.place, at);
+    Ok(())
 }
 
 // The number is written as the bytes, and the byte behind them stays.
 fn writes(rt: &impl Abort, value: u32, bytes: &[u8]) -> Result<(), Fail> {
     let mut out = [0xaa; 8];
-    match write_number(value, &mut out) {
-        Ok(len) => {
-            assert!(rt; len == bytes.len() && len < out.len());
-            assert!(rt; &out[0..len] == bytes && out[len] == 0xaa);
-            Ok(())
-        }
-        Err(refusal) => Err(Fail::new(refusal.word())),
-    }
+    let len = write_number(value, &mut out)?;
+    assert!(rt; len == bytes.len() && len < out.len());
+    assert!(rt; &out[..len] == bytes && out[len] == 0xaa);
+    Ok(())
 }
 
 #[test]
@@ -58,31 +48,58 @@ fn numbers_read_and_write(rt: HostRuntime) -> Result<(), Fail> {
 
 #[test]
 fn numbers_refused(rt: HostRuntime) -> Result<(), Fail> {
-    refuses(&rt, b"", 0, 1)?;
-    refuses(&rt, b"\x81", 0, 1)?;
-    refuses(&rt, b"\x05", 1, 1)?;
-    refuses(&rt, b"\x05", 7, 1)?;
+    refuses(&rt, b"", 0, Refusal::Short)?;
+    refuses(&rt, b"\x81", 0, Refusal::Short)?;
+    refuses(&rt, b"\x05", 1, Refusal::Short)?;
+    refuses(&rt, b"\x05", 7, Refusal::Short)?;
     // Four groups go on, and no more bytes.
-    refuses(&rt, b"\x81\x81\x81\x81", 0, 1)?;
+    refuses(&rt, b"\x81\x81\x81\x81", 0, Refusal::Short)?;
     // The fifth goes on: too wide, before the end is seen.
-    refuses(&rt, b"\x81\x81\x81\x81\x81", 0, 2)?;
-    refuses(&rt, b"\x90\x80\x80\x80\x00", 0, 2)?;
-    refuses(&rt, b"\x80\x05", 0, 3)?;
+    refuses(&rt, b"\x81\x81\x81\x81\x81", 0, Refusal::Wide)?;
+    refuses(&rt, b"\x90\x80\x80\x80\x00", 0, Refusal::Wide)?;
+    refuses(&rt, b"\x80\x05", 0, Refusal::Padded)?;
     // Padded before short.
-    refuses(&rt, b"\x80", 0, 3)?;
+    refuses(&rt, b"\x80", 0, Refusal::Padded)?;
     // Padded before wide.
-    refuses(&rt, b"\x80\x80\x80\x80\x80\x80", 0, 3)?;
-    refuses(&rt, b"\x05\x80\x05", 1, 3)
+    refuses(&rt, b"\x80\x80\x80\x80\x80\x80", 0, Refusal::Padded)?;
+    refuses(&rt, b"\x05\x80\x05", 1, Refusal::Padded)
 }
 
 #[test]
 fn too_little_room_touches_nothing(rt: HostRuntime) -> Result<(), Fail> {
     let mut out = [0xaa; 1];
-    match write_number(128, &mut out) {
-        Ok(_) => Err(Fail::new("it was written")),
-        Err(refusal) => {
-            assert!(rt; refusal.number() == 19 && out[0] == 0xaa);
-            Ok(())
-        },
+    let refusal = write_number(128, &mut out).err().ok_or("it was written")?;
+    assert!(rt; refusal == Refusal::Narrow && out[0] == 0xaa);
+    Ok(())
+}
+
+#[test]
+fn refusals_have_numbers_and_words(rt: HostRuntime) {
+    let cases: [(Refusal, u8, &str); 21] = [
+        (Refusal::Short, 1, "short"),
+        (Refusal::Wide, 2, "wide"),
+        (Refusal::Padded, 3, "padded"),
+        (Refusal::Surplus, 4, "surplus"),
+        (Refusal::Stranger, 5, "stranger"),
+        (Refusal::OffBeat, 6, "off beat"),
+        (Refusal::Heard, 7, "heard"),
+        (Refusal::Set, 8, "set"),
+        (Refusal::Image, 9, "image"),
+        (Refusal::Tally, 10, "tally"),
+        (Refusal::Company, 11, "company"),
+        (Refusal::Row, 12, "row"),
+        (Refusal::Wire, 13, "wire"),
+        (Refusal::Down, 14, "down"),
+        (Refusal::Spent, 15, "spent"),
+        (Refusal::Over, 16, "over"),
+        (Refusal::Silent, 17, "silent"),
+        (Refusal::Order, 18, "order"),
+        (Refusal::Narrow, 19, "narrow"),
+        (Refusal::Posted, 20, "posted"),
+        (Refusal::Entry, 21, "entry"),
+    ];
+    for (refusal, number, word) in cases {
+        assert_eq!(rt; refusal.number(), number);
+        assert!(rt; refusal.word() == word);
     }
 }
