@@ -69,7 +69,7 @@ head_back bytes r s m behind r32 s32 m32 is =
 
 next_inv : {X Y D E : Type 0} (up : D → E) (r : Result X D) (go : X → Result Y E) (y : Y) → and_then up r go ≡ Ok y → (x : X) × (r ≡ Ok x) × (go x ≡ Ok y)
 next_inv up (Ok x) go y e = (x, refl, e)
-next_inv up (Err d) go y e = let z : ◌≡◌ {A = ℕ} 0 1 = cc in absurd (omega arith)
+next_inv up (Err d) go y e = absurd cc
 
 field_only : (bytes : List ℕ) (place : ℕ) (f : Field) (d : Decoded) → AllByRecursion (λ b. b < 256) bytes → read_field f bytes place ≡ Ok d → drop place bytes ≡ written d.value ++ drop d.next bytes
 field_only bytes place f d all e =
@@ -106,12 +106,12 @@ head_only bytes h all e =
     ∙ ap (λ (x : Head). written x.round.0 ++ (written x.sender.0 ++ (written x.missing.mask ++ drop x.next bytes))) same
 
 judged_inv : {K : Type 0} (place : ℕ) (o : Option K) (end : ℕ) (p : K × ℕ) → judged place o end ≡ Ok p → (o ≡ Some p.0) × (end ≡ p.1)
-judged_inv place (Some x) end p e = let same : (x, end) ≡ p = cc in (ap (λ q. Some q.0) same, ap (λ q. q.1) same)
-judged_inv place None end p e = let z : ◌≡◌ {A = ℕ} 0 1 = cc in absurd (omega arith)
+judged_inv place (Some x) end p e = (cc, cc)
+judged_inv place None end p e = absurd cc
 
 -- nothing follows, and the frame is the one that was made
 end_inv : {K : Type 0} (b : Bool) (fault : FrameFault) (x f : Frame K) → cond b (Err fault) (Ok x) ≡ Ok f → (b ≡ false) × (x ≡ f)
-end_inv true fault x f e = let z : ◌≡◌ {A = ℕ} 0 1 = cc in absurd (omega arith)
+end_inv true fault x f e = absurd cc
 end_inv false fault x f e = (refl, cc)
 
 -- the numbers of a head and of an image, and what follows, one after another

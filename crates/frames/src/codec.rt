@@ -11,7 +11,7 @@ use kinds::Kind;
 use numbers::{Decoded, Refusal, read_number, write_numbers};
 use sets::{BoxNumber, BoxSet, RoundNumber};
 
-// The numbers of a frame.
+// The numbers of a frame: three, and those of the image, at most four.
 fn frame_numbers<K: Kind>(frame: Frame<K>) -> ArrayVec<u32, 7>
     ensures { result.items ≡ frame_numbers K.image frame }
 {
@@ -69,7 +69,7 @@ fn read_head(bytes: &[u8]) -> Result<Head, FrameFault>
 fn read_proposal<K: Kind>(bytes: &[u8], at: usize) -> Result<(K, usize), FrameFault>
     ensures { result ≡ read_proposal K.size K.named bytes.now at }
 {
-    let mut image: ArrayVec<u32, 4> = ArrayVec::new();
+    let mut image = ArrayVec::<u32, 4>::new();
     let mut next = at;
     for _ in 0..K::image_len() {
         let number = read_field(bytes, next, Field::Image)?;
