@@ -1,4 +1,4 @@
--- Steps of reading a frame. Assumes nothing.
+-- Steps of reading a proposal. Assumes nothing.
 use Rattle.std.proofs.Common.{◌≡◌, ℕ, suc, ◌+◌, ◌-◌, ◌<◌, ◌≤◌, List, [], ◌∷◌, ◌++◌, Ok, Err, Option, Result, refl, append_assoc, append-nil, arith}
 use Rattle.numbers.specs.declared.codec.Decoded.{Decoded}
 use Rattle.frames.specs.declared.fault.Field.TheVariants as field
@@ -9,7 +9,7 @@ use Rattle.frames.specs.Faults.{and_then, read_field}
 use Rattle.frames.specs.Frames.{read_image, judged, read_proposal}
 
 module _ {K : Type 0} (size : ℕ) (named : List ℕ → Option K) (bytes : List ℕ) (place : ℕ) where
-  -- what the proposal at the place is read as, once the first i numbers of its image are read, and the others are at another place
+  -- what the proposal at the place is read as, where the first i numbers of its image are ns and the next one is at another place
   abbrev pub read_on : (ns : List ℕ) (i at : ℕ) → Result (K × ℕ) FrameFault
   read_on ns i at = and_then (λ e. e) (read_image bytes (size - i) at) (λ rest. judged place (named (ns ++ rest.0)) rest.1)
 

@@ -1,5 +1,5 @@
 // A frame is round, sender, missing set and the image of the estimate, in this order, for any kind of proposal.
-ghost use Rattle.std.specs.Prelude.{◌≡◌, ◌-◌, ◌≤◌, length, take};
+ghost use Rattle.std.specs.Prelude.{◌≡◌};
 ghost use Rattle.numbers.specs.Numbers.{fronted, room_for};
 ghost use Rattle.frames.specs.Faults.{read_field};
 ghost use Rattle.frames.specs.Frames.{frame_numbers, frame_bytes, read_head, read_proposal, read_frame};
