@@ -2,7 +2,8 @@
 use Rattle.std.proofs.Common.{◌≡◌, ℕ, zero, suc, ◌+◌, ◌*◌, ◌^◌, ◌<◌, ◌≤◌, Bool, true, false, cond, ltb, List, [], ◌∷◌, ◌++◌, length, drop, Some, None, Ok, Err, Option, Result, sym, refl, ap, ◌∙◌, append_assoc, append-nil, arith, length-append}
 use Rattle.std.specs.List.{AllByRecursion}
 use Rattle.std.proofs.lemmas.List.{drop_all, drop_at, drop-drop}
-use Rattle.std.proofs.lemmas.Bool.{lt-ltb, le-ltb, ltb-false, cond-true, cond-false}
+use Rattle.std.proofs.lemmas.Bool.Decides.{nat_tests}
+use Rattle.std.proofs.lemmas.Bool.{ltb-false}
 use Rattle.numbers.specs.declared.codec.Decoded.{Decoded}
 use Rattle.numbers.specs.Numbers.{written, written_all, read_number}
 use Rattle.numbers.specs.declared.codec.NumberFault.{NumberFault}
@@ -27,17 +28,17 @@ field_back : (bytes : List ℕ) (place n : ℕ) (behind : List ℕ) (f : Field) 
 field_back bytes place n behind f small is = rw (number_back n place bytes behind small is) refl
 
 rest_of : (bytes : List ℕ) (place n : ℕ) (behind : List ℕ) → drop place bytes ≡ written n ++ behind → drop (place + length (written n)) bytes ≡ behind
-rest_of bytes place n behind is = sym (drop-drop (length (written n)) place bytes) ∙ ap (drop (length (written n))) is ∙ drop_at (written n) behind (length (written n)) refl
+rest_of bytes place n behind is = rw (← drop-drop (length (written n)) place bytes, is) (drop_at (written n) behind (length (written n)) refl)
 
 length-cons : (n : ℕ) (ns : List ℕ) → length (written_all (n ∷ ns)) ≡ length (written n) + length (written_all ns)
-length-cons n ns = ap length (written_all-cons n ns) ∙ length-append (written n) (written_all ns)
+length-cons n ns = simp (written_all-cons, length-append)
 
 length-nil : length (written_all []) ≡ 0
 length-nil = ap length written_all-nil
 
 -- the first of some numbers stands at the place, and the others behind it
 first_of : (bytes : List ℕ) (place n : ℕ) (ns behind : List ℕ) → drop place bytes ≡ written_all (n ∷ ns) ++ behind → drop place bytes ≡ written n ++ (written_all ns ++ behind)
-first_of bytes place n ns behind is = is ∙ ap (λ l. l ++ behind) (written_all-cons n ns) ∙ append_assoc (written n) (written_all ns) behind
+first_of bytes place n ns behind is = simp (is, written_all-cons, append_assoc)
 
 image_back : (bytes ns behind : List ℕ) (place : ℕ) → AllByRecursion (λ n. n < 2 ^ 32) ns → drop place bytes ≡ written_all ns ++ behind
     → read_image bytes (length ns) place ≡ Ok (ns, place + length (written_all ns))
@@ -69,7 +70,7 @@ head_back bytes r s m behind r32 s32 m32 is =
 
 next_inv : {X Y D E : Type 0} (up : D → E) (r : Result X D) (go : X → Result Y E) (y : Y) → and_then up r go ≡ Ok y → (x : X) × (r ≡ Ok x) × (go x ≡ Ok y)
 next_inv up (Ok x) go y e = (x, refl, e)
-next_inv up (Err d) go y e = let z : ◌≡◌ {A = ℕ} 0 1 = cc in absurd (omega arith)
+next_inv up (Err d) go y e = absurd cc
 
 field_only : (bytes : List ℕ) (place : ℕ) (f : Field) (d : Decoded) → AllByRecursion (λ b. b < 256) bytes → read_field f bytes place ≡ Ok d → drop place bytes ≡ written d.value ++ drop d.next bytes
 field_only bytes place f d all e =
@@ -79,17 +80,14 @@ field_only bytes place f d all e =
 
 image_only : (bytes : List ℕ) (size place : ℕ) (p : List ℕ × ℕ) → AllByRecursion (λ b. b < 256) bytes → read_image bytes size place ≡ Ok p → drop place bytes ≡ written_all p.0 ++ drop p.1 bytes
 unfolding read_image
-image_only bytes zero place p all e =
-    let same : ([], place) ≡ p = cc in
-    (λ j. sym written_all-nil j ++ drop place bytes) ∙ ap (λ (q : List ℕ × ℕ). written_all q.0 ++ drop q.1 bytes) same
+image_only bytes zero place p all e = let n = written_all-nil in cc
 image_only bytes (suc size) place p all e =
     let q = next_inv Number (read_field field.Image bytes place) _ p e in
     let t = next_inv (λ (d : FrameFault). d) (read_image bytes size q.0.next) _ p q.2 in
     let same : (q.0.value ∷ t.0.0, t.0.1) ≡ p = let z = t.2 in cc in
-    let on = image_only bytes size q.0.next t.0 all t.1 in
     let here = field_only bytes place field.Image q.0 all q.1 in
-    here ∙ ap (λ l. written q.0.value ++ l) on ∙ sym (append_assoc (written q.0.value) (written_all t.0.0) (drop t.0.1 bytes))
-    ∙ ap (λ l. l ++ drop t.0.1 bytes) (sym (written_all-cons q.0.value t.0.0)) ∙ ap (λ (q : List ℕ × ℕ). written_all q.0 ++ drop q.1 bytes) same
+    let on = image_only bytes size q.0.next t.0 all t.1 in
+    rw (← same) (here ∙ rw (on, written_all-cons, append_assoc) refl)
 
 head_only : (bytes : List ℕ) (h : Head) → AllByRecursion (λ b. b < 256) bytes → read_head bytes ≡ Ok h
     → bytes ≡ written h.round.0 ++ (written h.sender.0 ++ (written h.missing.mask ++ drop h.next bytes))
@@ -102,27 +100,24 @@ head_only bytes h all e =
     let two = field_only bytes p.0.next field.Sender q.0 all q.1 in
     let three = field_only bytes q.0.next field.Set r.0 all r.1 in
     let same : record { round = record { 0 = p.0.value }; sender = record { 0 = q.0.value }; missing = record { mask = r.0.value }; next = r.0.next } ≡ h = let z = r.2 in cc in
-    one ∙ ap (λ l. written p.0.value ++ l) (two ∙ ap (λ l. written q.0.value ++ l) three)
-    ∙ ap (λ (x : Head). written x.round.0 ++ (written x.sender.0 ++ (written x.missing.mask ++ drop x.next bytes))) same
+    rw (← same) (one ∙ ap (λ l. written p.0.value ++ l) (two ∙ ap (λ l. written q.0.value ++ l) three))
 
 judged_inv : {K : Type 0} (place : ℕ) (o : Option K) (end : ℕ) (p : K × ℕ) → judged place o end ≡ Ok p → (o ≡ Some p.0) × (end ≡ p.1)
-judged_inv place (Some x) end p e = let same : (x, end) ≡ p = cc in (ap (λ q. Some q.0) same, ap (λ q. q.1) same)
-judged_inv place None end p e = let z : ◌≡◌ {A = ℕ} 0 1 = cc in absurd (omega arith)
+judged_inv place (Some x) end p e = (cc, cc)
+judged_inv place None end p e = absurd cc
 
 -- nothing follows, and the frame is the one that was made
 end_inv : {K : Type 0} (b : Bool) (fault : FrameFault) (x f : Frame K) → cond b (Err fault) (Ok x) ≡ Ok f → (b ≡ false) × (x ≡ f)
-end_inv true fault x f e = let z : ◌≡◌ {A = ℕ} 0 1 = cc in absurd (omega arith)
+end_inv true fault x f e = absurd cc
 end_inv false fault x f e = (refl, cc)
 
 -- the numbers of a head and of an image, and what follows, one after another
 fields_are : (r s m : ℕ) (ns behind : List ℕ) → written_all (r ∷ s ∷ m ∷ ns) ++ behind ≡ written r ++ (written s ++ (written m ++ (written_all ns ++ behind)))
 unfolding written_all
-fields_are r s m ns behind =
-    append_assoc (written r) (written s ++ (written m ++ written_all ns)) behind
-    ∙ ap (λ l. written r ++ l) (append_assoc (written s) (written m ++ written_all ns) behind ∙ ap (λ l. written s ++ l) (append_assoc (written m) (written_all ns) behind))
+fields_are r s m ns behind = simp append_assoc
 
 length_fields : (r s m : ℕ) (ns : List ℕ) → length (written_all (r ∷ s ∷ m ∷ ns)) ≡ length (written_all (r ∷ s ∷ m ∷ [])) + length (written_all ns)
-length_fields r s m ns = ap length (written_all-append (r ∷ s ∷ m ∷ []) ns) ∙ length-append (written_all (r ∷ s ∷ m ∷ [])) (written_all ns)
+length_fields r s m ns = rw (written_all-append (r ∷ s ∷ m ∷ []) ns) (length-append _ _)
 
 -- such bytes are judged by what the image names and by what follows
 module _ {K : Type 0} (size : ℕ) (named : List ℕ → Option K) (r s m : ℕ) (ns behind : List ℕ) (all : AllByRecursion (λ n. n < 2 ^ 32) (r ∷ s ∷ m ∷ ns)) (long : length ns ≡ size) where
@@ -203,11 +198,13 @@ module _ {K : Type 0} (size : ℕ) (image : K → List ℕ) (named : List ℕ �
 
     pub frame_back : FrameBack size image named
     frame_back f fits =
-        ap (read_frame size named) (sym (append-nil (frame_bytes image f))) ∙ frame_then f [] fits
-        ∙ cond-false _ _ _ (le-ltb (length (frame_bytes image f)) (length (frame_bytes image f ++ [])) (omega (arith, length-append (frame_bytes image f) [])))
+        let then = frame_then f [] fits in
+        grind (arith, nat_tests, append-nil)
 
     pub frame_surplus : FrameSurplus size image named
-    frame_surplus f b behind fits = frame_then f (b ∷ behind) fits ∙ cond-true _ _ _ (lt-ltb (length (frame_bytes image f)) (length (frame_bytes image f ++ (b ∷ behind))) (omega (arith, length-append (frame_bytes image f) (b ∷ behind))))
+    frame_surplus f b behind fits =
+        let then = frame_then f (b ∷ behind) fits in
+        grind (arith, nat_tests, length-append)
 
     pub frame_length : FrameLength size image named
     frame_length f a b c r s m =
@@ -234,6 +231,5 @@ module _ {K : Type 0} (size : ℕ) (image : K → List ℕ) (named : List ℕ �
       let o = judged_inv p.0.next (named i.0.0) i.0.1 q.0 i.2 in
       let w = end_inv (ltb q.0.1 (length bytes)) _ _ f q.2 in
       let over : length bytes ≤ i.0.1 = omega (arith, ltb-false q.0.1 (length bytes) w.0, o.1) in
-      let rest : drop p.0.next bytes ≡ written_all (image q.0.0) = image_only bytes size p.0.next i.0 all i.1 ∙ ap (λ l. written_all i.0.0 ++ l) (drop_all i.0.1 bytes over) ∙ append-nil (written_all i.0.0) ∙ ap written_all (sym (only i.0.0 q.0.0 o.0)) in
-      head_only bytes p.0 all p.1 ∙ ap (λ l. written p.0.round.0 ++ (written p.0.sender.0 ++ (written p.0.missing.mask ++ l))) rest
-      ∙ sym (sym (append-nil (frame_bytes image (record { round = p.0.round; sender = p.0.sender; missing = p.0.missing; estimate = q.0.0 }))) ∙ fields_are p.0.round.0 p.0.sender.0 p.0.missing.mask (image q.0.0) [] ∙ ap (λ l. written p.0.round.0 ++ (written p.0.sender.0 ++ (written p.0.missing.mask ++ l))) (append-nil (written_all (image q.0.0)))) ∙ ap (frame_bytes image) w.1
+      let rest : drop p.0.next bytes ≡ written_all (image q.0.0) = image_only bytes size p.0.next i.0 all i.1 ∙ rw (drop_all i.0.1 bytes over, append-nil, only i.0.0 q.0.0 o.0) refl in
+      rw (← w.1) (head_only bytes p.0 all p.1 ∙ rw (rest, written_all-cons, written_all-cons, written_all-cons) refl)

@@ -1,32 +1,28 @@
 // A frame is round, sender, missing set and the image of the estimate, in this order, for any kind of proposal.
-ghost use Rattle.std.specs.Prelude.{◌≡◌, ◌-◌, ◌≤◌, length, take};
+ghost use Rattle.std.specs.Prelude.{◌≡◌};
 ghost use Rattle.numbers.specs.Numbers.{fronted, room_for};
 ghost use Rattle.frames.specs.Faults.{read_field};
 ghost use Rattle.frames.specs.Frames.{frame_numbers, frame_bytes, read_head, read_proposal, read_frame};
 
 use super::fault::{Field, FieldFault, FrameFault};
 use super::frame::Frame;
+use arrayvec::ArrayVec;
 use kinds::Kind;
 use numbers::{Decoded, Refusal, read_number, write_numbers};
 use sets::{BoxNumber, BoxSet, RoundNumber};
 
-// The numbers of a frame, in front of some places that are not used, and how many they are.
-fn frame_numbers<K: Kind>(frame: Frame<K>) -> ([u32; 7], usize)
-    ensures numbers { take (result.1 - 0) result.0 ≡ frame_numbers K.image frame }
-    ensures places { (length result.0 ≡ 7) × (result.1 ≤ 7) }
+// The numbers of a frame: three, and those of the image, at most four.
+fn frame_numbers<K: Kind>(frame: Frame<K>) -> ArrayVec<u32, 7>
+    ensures { result.items ≡ frame_numbers K.image frame }
 {
-    let Frame {
-        round,
-        sender,
-        missing,
-        estimate,
-    } = frame;
-    let mut numbers = [round.0, sender.0, missing.mask(), 0, 0, 0, 0];
-    let count = K::SIZE;
-    for i in 0..count {
-        numbers[3 + i] = estimate.image_number(i);
+    let mut numbers = ArrayVec::new();
+    numbers.push(frame.round.0);
+    numbers.push(frame.sender.0);
+    numbers.push(frame.missing.mask());
+    for i in 0..K::SIZE {
+        numbers.push(frame.estimate.image_number(i));
     }
-    (numbers, 3 + count)
+    numbers
 }
 
 // Writes the frame to the front of `out` and tells its length; where there is too little room, nothing is touched.
@@ -34,18 +30,14 @@ pub fn write_frame<K: Kind>(frame: Frame<K>, out: &mut [u8]) -> Result<usize, Re
     ensures told { result ≡ room_for (frame_bytes K.image frame) out.old }
     ensures bytes { out.new ≡ fronted (frame_bytes K.image frame) out.old }
 {
-    let (numbers, count) = frame_numbers(frame);
-    write_numbers(&numbers[0..count], out)
+    write_numbers(&frame_numbers(frame), out)
 }
 
 // A number of the frame, with its field told where it is at fault.
 fn read_field(bytes: &[u8], at: usize, field: Field) -> Result<Decoded, FieldFault>
     ensures { result ≡ read_field field bytes.now at }
 {
-    match read_number(bytes, at) {
-        Ok(number) => Ok(number),
-        Err(fault) => Err(FieldFault { field, fault }),
-    }
+    read_number(bytes, at).map_err(|fault| FieldFault { field, fault })
 }
 
 // The three numbers in front of the image, and the place behind them.
@@ -57,6 +49,7 @@ struct Head {
     next: usize,
 }
 
+#[tactic(auto, unfolding(crate::specs::Frames::read_head))]
 fn read_head(bytes: &[u8]) -> Result<Head, FrameFault>
     ensures { result ≡ read_head bytes.now }
 {
@@ -72,21 +65,19 @@ fn read_head(bytes: &[u8]) -> Result<Head, FrameFault>
 }
 
 // The proposal whose image begins at a place, and the place behind it.
+#[tactic(auto, using(crate::proofs::Whole::reading))]
 fn read_proposal<K: Kind>(bytes: &[u8], at: usize) -> Result<(K, usize), FrameFault>
     ensures { result ≡ read_proposal K.SIZE K.named bytes.now at }
 {
-    let mut image = [0; 4];
-    let count = K::SIZE;
+    let mut image = ArrayVec::<u32, 4>::new();
     let mut next = at;
-    for i in 0..count {
+    for _ in 0..K::SIZE {
         let number = read_field(bytes, next, Field::Image)?;
-        image[i] = number.value;
+        image.push(number.value);
         next = number.next;
     }
-    match K::from_image(&image[0..count]) {
-        Ok(proposal) => Ok((proposal, next)),
-        Err(_) => Err(FrameFault::Image { place: at }),
-    }
+    let proposal = K::from_image(&image).map_err(|_| FrameFault::Image { place: at })?;
+    Ok((proposal, next))
 }
 
 // The frame that the bytes hold, all of them.

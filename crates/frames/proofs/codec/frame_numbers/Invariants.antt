@@ -1,5 +1,5 @@
-use Rattle.std.proofs.Common.{◌≡◌, ◌+◌, ◌++◌, length, take}
+use Rattle.std.proofs.Common.{◌≡◌, ◌++◌, take}
 use Rattle.frames.proofs.codec.frame_numbers.Given as goal
 
 abbrev pub invariant-loop-i : goal.invariant-loop-i
-invariant-loop-i g l = (length l.numbers ≡ 7) × (take (3 + l.i) l.numbers ≡ take 3 l.initial.numbers ++ take l.i (g.K.Kind.image l.estimate))
+invariant-loop-i g l = l.numbers.items ≡ l.initial.numbers.items ++ take l.i (g.K.Kind.image l.fn.frame.estimate)

@@ -1,9 +1,10 @@
-use Rattle.std.proofs.Common.{◌≡◌, ◌-◌, length, take}
-use Rattle.frames.specs.Frames.{read_image}
-use Rattle.frames.proofs.Whole.{behind}
+use Rattle.std.proofs.Common.{◌≡◌, length}
+use Rattle.frames.specs.Frames.{read_proposal}
+use Rattle.frames.proofs.Whole.{read_on}
 use Rattle.frames.proofs.codec.read_proposal.Given as goal
 
-abbrev pub invariant-loop-i : goal.invariant-loop-i
-invariant-loop-i g l =
-    (length l.image ≡ 4)
-    × (behind (take l.i l.image) (read_image l.bytes (l.count - l.i) l.next) ≡ read_image l.bytes l.count l.at)
+abbrev pub invariant-loop : goal.invariant-loop
+invariant-loop g l =
+    let k = g.K.Kind in
+    (length l.image.items ≡ l.counter)
+    × (read_proposal k.SIZE k.named l.bytes l.at ≡ read_on k.SIZE k.named l.bytes l.at l.image.items l.counter l.next)
