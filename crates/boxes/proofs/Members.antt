@@ -6,7 +6,7 @@ use Rattle.sets.specs.Tests.{any, count}
 use Rattle.sets.specs.Masks.{member, set_of}
 use Rattle.boxes.specs.declared.states.Listening.{Listening}
 use Rattle.boxes.specs.Rounds.{unheard_in}
-use Rattle.sets.proofs.Bits.{bit-mask_of, mask_below, mask_of-ext}
+use Rattle.sets.proofs.Bits.{bit-mask_of, mask_below}
 use Rattle.sets.proofs.Counts.{any_none, count_ext, count_le, count_none}
 
 -- whether a number below 32 is in the set that a test makes
@@ -16,10 +16,6 @@ member_is P s e i l = ap (λ z. member z i) e ∙ (let m = bit-mask_of P 32 i in
 -- a set whose numbers below 32 all pass Q has no others
 pub member_only : (P Q : ℕ → Bool) (s : BoxSet) → s ≡ set_of P → ((i : ℕ) → P i ≡ true → Q i ≡ true) → (i : ℕ) → Q i ≡ false → member s i ≡ false
 member_only P Q s e f i q = ap (λ z. member z i) e ∙ (let m = bit-mask_of P 32 i in let h = f i in grind (arith, nat_tests))
-
--- sets made by tests that agree are equal
-pub set_ext : (P Q : ℕ → Bool) → ((i : ℕ) → i < 32 → P i ≡ Q i) → set_of P ≡ set_of Q
-set_ext P Q e = ap (λ m. record { mask = m }) (mask_of-ext P Q 32 e)
 
 module _ (s : BoxSet) (empty : s ≡ set_of (λ _. false)) where
   pub none_member : (i : ℕ) → member s i ≡ false

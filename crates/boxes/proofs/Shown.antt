@@ -16,7 +16,8 @@ use Rattle.boxes.specs.Boxes.{frame_of}
 use Rattle.boxes.specs.Rounds.{open_notes, noted, unheard_in, own_fault, closed_with, closing}
 use Rattle.boxes.specs.Rule as rule
 use Rattle.boxes.specs.Rule.{Heard, estimate_in, unheard, told_missing, first_heard, ruled}
-use Rattle.boxes.proofs.Members.{member_is, set_ext}
+use Rattle.sets.proofs.Bits.{set_ext}
+use Rattle.boxes.proofs.Members.{member_is}
 use Rattle.boxes.proofs.Sent.{mask_fits}
 
 -- frames heard, and one more from a box not heard before

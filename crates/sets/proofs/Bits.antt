@@ -151,6 +151,10 @@ mask_is P n mask h e =
 pub set_is : (P : ℕ → Bool) (mask : ℕ) → mask < 2 ^ 32 → ((i : ℕ) → i < 32 → bit mask i ≡ P i) → record { mask = mask } ≡ set_of P
 set_is P mask h e = ap (λ m. record { mask = m }) (mask_is P 32 mask h e)
 
+-- sets made by tests that agree are equal
+pub set_ext : (P Q : ℕ → Bool) → ((i : ℕ) → i < 32 → P i ≡ Q i) → set_of P ≡ set_of Q
+set_ext P Q e = ap (λ m. record { mask = m }) (mask_of-ext P Q 32 e)
+
 pub mask_of-bit : (n mask : ℕ) → mask < 2 ^ n → mask_of (bit mask) n ≡ mask
 mask_of-bit n mask h = sym (mask_is (bit mask) n mask h (λ _ _. refl))
 
