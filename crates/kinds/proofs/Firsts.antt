@@ -1,7 +1,7 @@
 -- The foremost of some values, by the laws of an order. Assumes nothing.
-use Rattle.std.proofs.Common.{◌≡◌, ℕ, zero, suc, ◌<◌, Bool, true, false, not, ◌⊎◌, Some, None, Option, sym, refl, ap, ◌∙◌, ⊎_elim, not-suc-le-zero, arith, MatchOption}
+use Rattle.std.proofs.Common.{◌≡◌, ℕ, zero, suc, ◌<◌, Bool, true, false, not, ◌⊎◌, Some, None, Option, sym, refl, ap, ◌∙◌, ⊎_elim, not-suc-le-zero, below_more, arith, MatchOption}
 use Rattle.std.proofs.lemmas.Option.{MatchOption-at_some}
-use Rattle.std.proofs.lemmas.Bool.{and_parts, cases_lt, both_ways}
+use Rattle.std.proofs.lemmas.Bool.{and_parts, both_ways}
 use Rattle.kinds.specs.Orders.{before, sooner, foremost, Among, LeadsAll, ForemostLeads, ForemostOnly}
 
 module _ {V : Type 0} (leads : V → V → Bool) (total : (x y : V) → (leads x y ≡ true) ⊎ (leads y x ≡ true))
@@ -9,31 +9,36 @@ module _ {V : Type 0} (leads : V → V → Bool) (total : (x y : V) → (leads x
   itself : (x : V) → leads x x ≡ true
   itself x = ⊎_elim (λ e. e) (λ e. e) (total x x)
 
+  ahead : (x y : V) → before leads x y ≡ true → leads x y ≡ true
+  ahead x y e = (and_parts (leads x y) (not (leads y x)) e).0
+
+  behind : (x y : V) → before leads x y ≡ false → leads y x ≡ true
+  behind x y e = ⊎_elim (λ f. grind arith) (λ g. g) (total x y)
+
   -- what the foremost value of those below n is to be
   abbrev First : (ℕ → Bool) → (ℕ → V) → ℕ → Option V → Type 0
   First P v n o = MatchOption o ((k : ℕ) → k < n → P k ≡ false) (λ x. Among leads P v n x × LeadsAll leads P v n x)
 
-  -- what holds of each number below n, and of n
-  below : {A : Type 0} (n k : ℕ) → k < suc n → (k < n → A) → (k ≡ n → A) → A
-  below n k l less here = ⊎_elim less (λ h. here (omega arith)) (cases_lt k n)
-
   module _ (P : ℕ → Bool) (v : ℕ → V) (n : ℕ) where
+    -- what holds of each number below n, and of n
+    below : (Q : ℕ → Type 0) → ((k : ℕ) → k < n → Q k) → Q n → (k : ℕ) → k < suc n → Q k
+    below Q less here k l = below_more Q n less here k (omega arith)
+
+    abbrev Led : V → ℕ → Type 0
+    Led x k = P k ≡ true → leads x (v k) ≡ true
+
     skipped : P n ≡ false → (o : Option V) → First P v n o → First P v (suc n) o
-    skipped off None none = λ k l. below n k l (none k) (λ e. ap P e ∙ off)
-    skipped off (Some x) ((k, l, p, is), all) = ((k, omega arith, p, is), λ j m q. below n j m (λ b. all j b q) (λ e. absurd (both_ways (P n) off (sym (ap P e) ∙ q))))
+    skipped off None none = below (λ k. P k ≡ false) none off
+    skipped off (Some x) ((k, l, p, is), all) = ((k, omega arith, p, is), below (Led x) all (λ q. absurd (both_ways (P n) off q)))
 
     taken : P n ≡ true → (o : Option V) → First P v n o → First P v (suc n) (Some (sooner leads o (v n)))
-    taken on None none = ((n, omega arith, on, refl), λ k l p. below n k l (λ b. absurd (both_ways (P k) (none k b) p)) (λ e. ap (λ j. leads (v n) (v j)) e ∙ itself (v n)))
+    taken on None none = ((n, omega arith, on, refl), below (Led (v n)) (λ k l p. absurd (both_ways (P k) (none k l) p)) (λ _. itself (v n)))
     taken on (Some x) ((k, l, p, is), all) = by (before leads (v n) x) refl
       where
         -- v n goes before x, or x stays
         by : (b : Bool) → before leads (v n) x ≡ b → First P v (suc n) (Some (sooner leads (Some x) (v n)))
-        by true e =
-            let f = (and_parts (leads (v n) x) (not (leads x (v n))) e).0 in
-            rw e ((n, omega arith, on, refl), λ j m q. below n j m (λ b. transitive (v n) x (v j) f (all j b q)) (λ e. ap (λ i. leads (v n) (v i)) e ∙ itself (v n)))
-        by false e =
-            let g : leads x (v n) ≡ true = ⊎_elim (λ f. grind arith) (λ g. g) (total (v n) x) in
-            rw e ((k, omega arith, p, is), λ j m q. below n j m (λ b. all j b q) (λ e. ap (λ i. leads x (v i)) e ∙ g))
+        by true e = rw e ((n, omega arith, on, refl), below (Led (v n)) (λ j m q. transitive (v n) x (v j) (ahead (v n) x e) (all j m q)) (λ _. itself (v n)))
+        by false e = rw e ((k, omega arith, p, is), below (Led x) all (λ _. behind (v n) x e))
 
   pub foremost_leads : ForemostLeads leads
   unfolding foremost
@@ -54,18 +59,16 @@ module _ {V : Type 0} (leads : V → V → Bool) (total : (x y : V) → (leads x
   -- one value more, at q, goes first or leaves the first as it was
   module _ (antisymmetric : (x y : V) → leads x y ≡ true → leads y x ≡ true → x ≡ y) (P P' : ℕ → Bool) (v v' : ℕ → V) (n q : ℕ) (l : q < n)
       (here : P' q ≡ true) (stay : (k : ℕ) → P k ≡ true → (P' k ≡ true) × (v' k ≡ v k)) (others : (k : ℕ) → P' k ≡ true → (P k ≡ true) ⊎ (k ≡ q)) where
+    -- what may go first of each value that was there, and of the one more
+    led : (x : V) → LeadsAll leads P v n x → leads x (v' q) ≡ true → LeadsAll leads P' v' n x
+    led x all new j b p = ⊎_elim (λ o. ap (leads x) (stay j o).1 ∙ all j b o) (λ s. ap (λ i. leads x (v' i)) s ∙ new) (others j p)
+
     pub foremost_more : (x : V) → foremost leads P v n ≡ Some x → foremost leads P' v' n ≡ Some (sooner leads (Some x) (v' q))
     foremost_more x e = by (MatchOption-at_some _ _ x e (foremost_leads P v n)) (before leads (v' q) x) refl
       where
         by : Among leads P v n x × LeadsAll leads P v n x → (t : Bool) → before leads (v' q) x ≡ t → foremost leads P' v' n ≡ Some (sooner leads (Some x) (v' q))
-        by ((k, m, p, is), all) true t =
-            let f = (and_parts (leads (v' q) x) (not (leads x (v' q))) t).0 in
-            rw t (foremost_only antisymmetric P' v' n (v' q) (q, l, here, refl) (λ j b p.
-            ⊎_elim
-            (λ o. ap (leads (v' q)) (stay j o).1 ∙ transitive (v' q) x (v j) f (all j b o))
-            (λ s. ap (λ i. leads (v' q) (v' i)) s ∙ itself (v' q))
-            (others j p)))
+        by (_, all) true t =
+            let further = λ (j : ℕ) (b : j < n) (o : P j ≡ true). transitive (v' q) x (v j) (ahead (v' q) x t) (all j b o) in
+            rw t (foremost_only antisymmetric P' v' n (v' q) (q, l, here, refl) (led (v' q) further (itself (v' q))))
         by ((k, m, p, is), all) false t =
-            let g : leads x (v' q) ≡ true = ⊎_elim (λ f. grind arith) (λ g. g) (total (v' q) x) in
-            rw t (foremost_only antisymmetric P' v' n x (k, m, (stay k p).0, is ∙ sym (stay k p).1) (λ j b p.
-            ⊎_elim (λ o. ap (leads x) (stay j o).1 ∙ all j b o) (λ s. ap (λ i. leads x (v' i)) s ∙ g) (others j p)))
+            rw t (foremost_only antisymmetric P' v' n x (k, m, (stay k p).0, is ∙ sym (stay k p).1) (led x all (behind (v' q) x t)))

@@ -10,7 +10,7 @@ module _ {V : Type 0} (leads : V → V → Bool) where
   abbrev step : V → V → V
   step first x = sooner leads (Some first) x
 
-  -- of x and the n behind it
+  -- the first of x and of the n behind it
   folded : (x d : V) (xs : List V) (n : ℕ) → n ≤ length xs → Some (fold step x (take n xs)) ≡ foremost leads (λ _. true) (λ k. get_or (x ∷ xs) k d) (suc n)
   unfolding foremost
   folded x d xs zero l = refl
@@ -18,6 +18,7 @@ module _ {V : Type 0} (leads : V → V → Bool) where
       let more = rw add-one at (fold_more step x xs n d (omega arith)) in
       ap Some more ∙ ap (λ o. Some (sooner leads o (get_or xs n d))) (folded x d xs n (omega arith))
 
+  -- the first of all
   reduced : (xs : List V) (d : V) → reduce step xs ≡ foremost leads (λ _. true) (λ k. get_or xs k d) (length xs)
   unfolding foremost
   reduced [] d = refl
