@@ -45,14 +45,14 @@ impl<K: Kind> Listening<K> {
     pub fn number(self) -> BoxNumber
         ensures { result ≡ self.at.held.number }
     {
-        self.at.held.number
+        self.at.number()
     }
 
     // The round that is open.
     fn round(self) -> RoundNumber
         ensures { result ≡ next_round self.at.held }
     {
-        RoundNumber(self.at.held.closed + 1)
+        self.at.next_round()
     }
 
     fn own_fault(self, refusal: Refusal) -> OwnFault

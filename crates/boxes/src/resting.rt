@@ -3,7 +3,7 @@ ghost use Rattle.std.specs.Prelude.{◌≡◌, ⊤};
 ghost use Rattle.std.specs.Result.{result_map_both};
 ghost use Rattle.numbers.specs.Numbers.{fronted, room_for};
 ghost use Rattle.frames.specs.Frames.{frame_bytes};
-ghost use Rattle.boxes.specs.Boxes.{new_box, frame_of};
+ghost use Rattle.boxes.specs.Boxes.{new_box, next_round, frame_of};
 ghost use Rattle.boxes.specs.Rounds.{open_notes};
 
 use super::states::{Held, Listening, Notes, Resting};
@@ -33,7 +33,7 @@ impl<K: Kind> Resting<K> {
     pub fn new(number: BoxNumber, n: u32, t: u32, proposal: K) -> Result<Resting<K>, Refusal>
         ensures { result_map_both (λ b. b.held) (λ e. e) result ≡ new_box number n t proposal }
     {
-        if n < LEAST_COMPANY || n > MOST_COMPANY || t < 1 || t >= n {
+        if !(LEAST_COMPANY..=MOST_COMPANY).contains(&n) || !(1..n).contains(&t) {
             return Err(Refusal::Company);
         }
         if number.0 >= n {
@@ -100,6 +100,13 @@ impl<K: Kind> Resting<K> {
         self.held.horizon
     }
 
+    // The round that it opens next.
+    pub(crate) fn next_round(self) -> RoundNumber
+        ensures { result ≡ next_round self.held }
+    {
+        RoundNumber(self.held.closed + 1)
+    }
+
     // Writes the frame of the next round to the front of `out` and tells its length; where there is too little room, nothing
     // is touched.
     pub fn compose(self, out: &mut [u8]) -> Result<usize, Refusal>
@@ -108,7 +115,7 @@ impl<K: Kind> Resting<K> {
     {
         write_frame(
             Frame {
-                round: RoundNumber(self.held.closed + 1),
+                round: self.next_round(),
                 sender: self.held.number,
                 missing: self.held.missing,
                 estimate: self.held.estimate,
