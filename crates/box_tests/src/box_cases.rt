@@ -76,13 +76,12 @@ fn rests(ear: Listening<Piece>) -> Result<Resting<Piece>, Fail> {
 }
 
 fn rings(rt: &impl Abort, ear: Listening<Piece>, round: u32, piece: u16) -> Result<(), Fail> {
-    match closed(ear)? {
-        Closed::Rests(_) => Err(Fail::new("it rests")),
-        Closed::Rings { round: r, proposal } => {
-            assert!(rt; r == RoundNumber(round) && proposal.number() == piece);
-            Ok(())
-        }
-    }
+    let rung = Closed::Rings {
+        round: RoundNumber(round),
+        proposal: Piece::new(piece)?,
+    };
+    assert_eq!(rt; closed(ear)?, rung);
+    Ok(())
 }
 
 // The tally is refused, and the box goes on listening.
@@ -91,10 +90,11 @@ fn still_listens(
     ear: Listening<Piece>,
     round: u32,
 ) -> Result<Listening<Piece>, Fail> {
-    let (ear, fault) = ear.close().err().ok_or("it was closed")?;
+    let (left, fault) = ear.close().err().ok_or("it was closed")?;
+    assert_eq!(rt; left, ear);
     assert_eq!(rt; fault.refusal(), Refusal::Tally);
     assert_eq!(rt; fault.round(), RoundNumber(round));
-    Ok(ear)
+    Ok(left)
 }
 
 fn holds(rt: &impl Abort, b: Resting<Piece>, closed: u32, piece: u16, missing: u32, horizon: u32) {

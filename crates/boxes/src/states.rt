@@ -6,7 +6,7 @@ ghost use Rattle.sets.specs.Masks.{member};
 use sets::{BoxNumber, BoxSet, RoundNumber};
 
 // The seven values that a box holds.
-#[derive(Clone, Copy)]
+#[derive(Clone, Copy, Debug, PartialEq, Eq)]
 pub struct Held<K> {
     pub number: BoxNumber,
     // How many boxes its company has.
@@ -23,7 +23,7 @@ pub struct Held<K> {
 }
 
 // A box between rounds.
-#[derive(Copy)]
+#[derive(Copy, Debug, PartialEq, Eq)]
 pub struct Resting<K> {
     pub(crate) held: Held<K>,
     ghost several: { 2 ≤ held.n },
@@ -39,7 +39,7 @@ pub struct Resting<K> {
 }
 
 // What a box has noted of the round that it listens to.
-#[derive(Clone, Copy)]
+#[derive(Clone, Copy, Debug, PartialEq, Eq)]
 pub struct Notes<K> {
     // The boxes heard, itself among them.
     pub heard: BoxSet,
@@ -50,7 +50,7 @@ pub struct Notes<K> {
 }
 
 // A box that has opened a round and hears frames.
-#[derive(Copy)]
+#[derive(Copy, Debug, PartialEq, Eq)]
 pub struct Listening<K> {
     pub(crate) at: Resting<K>,
     pub(crate) notes: Notes<K>,
@@ -58,6 +58,7 @@ pub struct Listening<K> {
 }
 
 // What closing a round leaves: a box at rest, or the round in which it rings and the proposal on which it does.
+#[derive(Debug, PartialEq, Eq)]
 #[derive_where(Clone, Copy; K: Copy)]
 pub enum Closed<K> {
     Rests(Resting<K>),
