@@ -98,10 +98,10 @@ fn still_listens(
 }
 
 fn holds(rt: &impl Abort, b: Resting<Piece>, closed: u32, piece: u16, missing: u32, horizon: u32) {
-    assert!(rt; b.closed() == closed);
-    assert!(rt; b.estimate().number() == piece);
-    assert!(rt; b.missing() == BoxSet::from_mask(missing));
-    assert!(rt; b.horizon() == RoundNumber(horizon));
+    assert_eq!(rt; b.closed(), closed);
+    assert_eq!(rt; b.estimate().number(), piece);
+    assert_eq!(rt; b.missing(), BoxSet::from_mask(missing));
+    assert_eq!(rt; b.horizon(), RoundNumber(horizon));
 }
 
 #[test]

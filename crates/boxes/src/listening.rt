@@ -30,7 +30,7 @@ impl<K: Kind> Notes<K> {
     }
 }
 
-// A copy, which takes no memory.
+// A copy, which takes no memory. By hand, since `Clone` is not derived for a struct with ghost fields.
 impl<K: Copy> Clone for Listening<K> {
     ghost is_clone = { λ b c. c ≡ b };
 

@@ -5,7 +5,7 @@ ghost use Rattle.sets.specs.Masks.{member};
 
 use sets::{BoxNumber, BoxSet, RoundNumber};
 
-// The seven values that a box holds.
+// The seven values that a box holds. They are plain, n and t too, so that a definition can name a box with no proof of its limits.
 #[derive(Clone, Copy, Debug, PartialEq, Eq)]
 pub struct Held<K> {
     pub number: BoxNumber,

@@ -33,7 +33,8 @@ pub fn write_frame<K: Kind>(frame: Frame<K>, out: &mut [u8]) -> Result<usize, Re
     write_numbers(&frame_numbers(frame), out)
 }
 
-// A number of the frame, with its field told where it is at fault.
+// A number of the frame, with its field told where it is at fault. Bytes and place stay two parameters: a cursor that moves on would
+// need a second clause, on what it leaves as it was.
 fn read_field(bytes: &[u8], at: usize, field: Field) -> Result<Decoded, FieldFault>
     ensures { result ≡ read_field field bytes.now at }
 {

@@ -10,6 +10,7 @@ use std::io::Read;
 // A frame of pieces is four numbers of at most five bytes each, so no byte behind the first 21 changes the answer.
 const MOST_READ: u64 = 64;
 
+// A frame is written into bytes that are lent, since the library has no heap.
 const LONGEST: usize = 20;
 
 fn show(rt: &impl Print, frame: Frame<Piece>) -> io::Result<()> {
