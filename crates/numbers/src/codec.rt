@@ -5,14 +5,14 @@ ghost use Rattle.numbers.specs.Numbers.{written, written_all, fronted, room_for,
 use super::refusal::Refusal;
 
 // A number that was not read: why, and the place of its first byte.
-#[derive(Clone, Copy)]
+#[derive(Clone, Copy, Debug, PartialEq, Eq)]
 pub struct NumberFault {
     pub refusal: Refusal,
     pub place: usize,
 }
 
 // A number that was read, and the place behind its last byte.
-#[derive(Clone, Copy)]
+#[derive(Clone, Copy, Debug, PartialEq, Eq)]
 pub struct Decoded {
     pub value: u32,
     pub next: usize,
