@@ -1,6 +1,6 @@
 // Numbers in groups of seven bits, the highest group first, every byte but the last with its top bit set.
 ghost use Rattle.std.specs.Prelude.{◌≡◌, length, drop, nat_le};
-ghost use Rattle.numbers.specs.Numbers.{written, written_all, fronted, room_for, read_groups, read_number};
+ghost use Rattle.numbers.specs.Numbers.{written, written_all, fronted, room_for, refuse, read_groups, read_number};
 
 use super::refusal::Refusal;
 
@@ -81,39 +81,38 @@ pub fn write_numbers(numbers: &[u32], out: &mut [u8]) -> Result<usize, Refusal>
     Ok(at)
 }
 
+// The refusal of the number that begins at a place.
+fn refuse(refusal: Refusal, place: usize) -> Result<Decoded, NumberFault>
+    ensures { result ≡ refuse refusal place }
+{
+    Err(NumberFault { refusal, place })
+}
+
 // The number that the groups from a place on make.
 fn read_groups(bytes: &[u8], at: usize) -> Result<Decoded, NumberFault>
     ensures { result ≡ read_groups at (drop at bytes.now) }
 {
     let mut high: u32 = 0;
-    let mut i = at;
-    let value = loop {
-        if i >= bytes.len() {
-            return Err(NumberFault {
-                refusal: Refusal::Short,
-                place: at,
-            });
-        }
-        let byte = bytes[i];
+    let mut groups = bytes.iter().skip(at).enumerate();
+    let (value, last) = loop {
+        let Some((i, &byte)) = groups.next() else {
+            return refuse(Refusal::Short, at);
+        };
         if byte < 0x80 {
             if high > u32::MAX >> 7 {
-                return Err(NumberFault {
-                    refusal: Refusal::Wide,
-                    place: at,
-                });
+                return refuse(Refusal::Wide, at);
             }
-            break high << 7 | byte as u32;
+            break (high << 7 | u32::from(byte), i);
         }
-        if i - at == 4 {
-            return Err(NumberFault {
-                refusal: Refusal::Wide,
-                place: at,
-            });
+        if i == 4 {
+            return refuse(Refusal::Wide, at);
         }
-        high = high << 7 | (byte & 0x7f) as u32;
-        i += 1;
+        high = high << 7 | u32::from(byte & 0x7f);
     };
-    Ok(Decoded { value, next: i + 1 })
+    Ok(Decoded {
+        value,
+        next: at + last + 1,
+    })
 }
 
 // The number that begins at a place of the bytes.
@@ -121,10 +120,7 @@ pub fn read_number(bytes: &[u8], at: usize) -> Result<Decoded, NumberFault>
     ensures { result ≡ read_number bytes.now at }
 {
     if at < bytes.len() && bytes[at] == 0x80 {
-        return Err(NumberFault {
-            refusal: Refusal::Padded,
-            place: at,
-        });
+        return refuse(Refusal::Padded, at);
     }
     read_groups(bytes, at)
 }
