@@ -30,10 +30,10 @@ read c =
     group _ _ _ _ _ c.loop-i.invariant.few c.loop-i.invariant.on c.loop-i.invariant.high (YieldsList-turn road c.loop-i.yielded _ c.loop-i.yielded_by _ _ _ c.in-Some.is c.next.ensures.steps)
 
 pub returns-then-high : goal.returns-then-high
-returns-then-high c = c.refuse-then-high.ensures ∙ sym (at_wide (read (goal.at.returns-then-high c).In-Some).1 c.args.at c.if-byte-lt128.true c.if-high.true)
+returns-then-high c = c.refuse-then-high.ensures ∙ sym (at_wide (read (goal.at.returns-then-high c).In-Some).1 c.args.at (omega arith) (omega arith))
 
 pub returns-then-i-eq4 : goal.returns-then-i-eq4
-returns-then-i-eq4 c = c.refuse-then-i-eq4.ensures ∙ sym (at_fifth (read (goal.at.returns-then-i-eq4 c).In-Some).1 c.args.at c.if-byte-lt128.false c.if-i-eq4.true)
+returns-then-i-eq4 c = c.refuse-then-i-eq4.ensures ∙ sym (at_fifth (read (goal.at.returns-then-i-eq4 c).In-Some).1 c.args.at (omega arith) (omega arith))
 
 pub loop-i-preserved : goal.loop-i-preserved
 loop-i-preserved c =
@@ -41,9 +41,9 @@ loop-i-preserved c =
     let n : length (c.loop-i.yielded ++ ((c.in-Some.i, c.in-Some.field-0-1) ∷ [])) ≡ c.in-Some.i + 1 = omega (arith, i, length_push c.loop-i.yielded (c.in-Some.i, c.in-Some.field-0-1)) in
     record {
       few = omega arith;
-      on = omega (arith, more g c.if-byte-lt128.false);
+      on = omega (arith, more g (omega arith));
       high = rw (n, c.from-in-loop-i.ensures) (value_more g (omega arith));
     }
 
 pub returns : goal.returns
-returns c = rw c.from.ensures (sym (at_last (read (goal.at.returns c).In-Some).1 c.args.at c.if-byte-lt128.true (omega arith)))
+returns c = let l = at_last (read (goal.at.returns c).In-Some).1 c.args.at (omega arith) (omega arith) in cc
