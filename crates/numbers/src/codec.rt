@@ -32,6 +32,7 @@ pub fn number_len(n: u32) -> usize
 }
 
 // Writes the number to the front of `out` and tells its length; where there is too little room, nothing is touched.
+#[tactic(auto, using(crate::proofs::Groups::writes))]
 pub fn write_number(n: u32, out: &mut [u8]) -> Result<usize, Refusal>
     ensures told { result ≡ room_for (written n) out.old }
     ensures bytes { out.new ≡ fronted (written n) out.old }
@@ -40,11 +41,9 @@ pub fn write_number(n: u32, out: &mut [u8]) -> Result<usize, Refusal>
     if out.len() < len {
         return Err(Refusal::Narrow);
     }
-    let mut i = len - 1;
-    out[i] = (n & 0x7f) as u8;
+    out[len - 1] = (n & 0x7f) as u8;
     let mut rest = n >> 7;
-    while rest != 0 {
-        i -= 1;
+    for i in (0..len - 1).rev() {
         out[i] = 0x80 | (rest & 0x7f) as u8;
         rest >>= 7;
     }
