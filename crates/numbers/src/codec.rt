@@ -54,15 +54,7 @@ pub fn write_number(n: u32, out: &mut [u8]) -> Result<usize, Refusal>
 fn fit(numbers: &[u32], room: usize) -> bool
     ensures { result ≡ nat_le (length (written_all numbers.now)) room }
 {
-    let mut left = room;
-    for n in numbers {
-        let len = number_len(*n);
-        if left < len {
-            return false;
-        }
-        left -= len;
-    }
-    true
+    numbers.iter().copied().map(number_len).sum::<usize>() <= room
 }
 
 // Writes several numbers, one after another, as `write_number` does one.
