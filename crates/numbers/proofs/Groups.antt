@@ -1,5 +1,6 @@
 -- The bytes of a number, group by group. Assumes nothing.
-use Rattle.std.proofs.Common.{◌≡◌, ℕ, zero, suc, refl, ◌-◌, ◌+◌, ◌/◌, ◌%◌, ◌^◌, ◌<◌, ◌≤◌, List, [], ◌∷◌, ◌++◌, map, length, drop, set, sym, ap, ◌∙◌, append_assoc, pow-suc, arith, length-append}
+use Rattle.std.proofs.Common.{◌≡◌, ℕ, ◌*◌, zero, suc, refl, ◌-◌, ◌+◌, ◌/◌, ◌%◌, ◌^◌, ◌<◌, ◌≤◌, List, [], ◌∷◌, ◌++◌, map, length, drop, set, max, sym, ap, ◌∙◌, append_assoc, pow-suc, arith, length-append}
+use Rattle.std.proofs.Math.Nat.{one-le-pow}
 use lib.Bits.{bit_and, bit_or}
 use lib.ListN.{length-map}
 use Rattle.std.specs.Int.Digits.{digits_of}
@@ -28,6 +29,15 @@ pub number_length : NumberLength
 number_length k n small =
     let most = length-marked k (n / 128) (omega (arith, pow-suc 128 k)) in
     (omega (arith, length-written n), omega (arith, length-written n))
+
+-- how many bytes the highest power of 128 in a number tells
+pub length_by_power : (n k : ℕ) → 128 ^ k ≤ max n 1 → max n 1 < 128 * 128 ^ k → k + 1 ≡ length (written n)
+length_by_power n zero large small = omega (arith, number_length 0 n (omega arith))
+length_by_power n (suc k) large small =
+    let next = pow-suc 128 k in
+    let some = one-le-pow k 128 (omega arith) in
+    let fewer = length_by_power (n / 128) k (omega arith) (omega arith) in
+    omega (arith, fewer, length-written n, length-written (n / 128), length-marked_step (n / 128) (omega arith))
 
 -- what the writer computes of a group
 marked_byte : (n : ℕ) → bit_or 128 (bit_and n 127) ≡ 128 + n % 128

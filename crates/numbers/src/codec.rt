@@ -22,13 +22,7 @@ pub struct Decoded {
 pub fn number_len(n: u32) -> usize
     ensures { result ≡ length (written n) }
 {
-    let mut len = 1;
-    let mut rest = n >> 7;
-    while rest > 0 {
-        len += 1;
-        rest >>= 7;
-    }
-    len
+    n.max(1).ilog(128) as usize + 1
 }
 
 // Writes the number to the front of `out` and tells its length; where there is too little room, nothing is touched.
