@@ -1,12 +1,12 @@
 -- The bytes of a number, group by group. Assumes nothing.
-use Rattle.std.proofs.Common.{◌≡◌, ℕ, ◌*◌, zero, suc, refl, ◌-◌, ◌+◌, ◌/◌, ◌%◌, ◌^◌, ◌<◌, ◌≤◌, List, [], ◌∷◌, ◌++◌, map, length, drop, set, max, sym, ap, ◌∙◌, append_assoc, pow-suc, arith, length-append}
+use Rattle.std.proofs.Common.{◌≡◌, ℕ, ◌*◌, zero, suc, refl, ◌-◌, ◌+◌, ◌/◌, ◌%◌, ◌^◌, ◌<◌, ◌≤◌, List, [], ◌∷◌, ◌++◌, map, length, drop, set, max, ap, ◌∙◌, pow-suc, arith, length-append}
 use Rattle.std.proofs.Math.Nat.{one-le-pow}
 use lib.Bits.{bit_and, bit_or}
 use lib.ListN.{length-map}
 use Rattle.std.specs.Int.Digits.{digits_of}
 use Rattle.std.proofs.lemmas.Int.Digits.{digits_of_step, length-digits_of-le}
 use Rattle.std.proofs.lemmas.Nat.{and_mask, or_shifted}
-use Rattle.std.proofs.lemmas.List.{map_push, length-set, drop-set, drop-set-lt}
+use Rattle.std.proofs.lemmas.List.{map_push, length-set}
 use Rattle.std.proofs.lemmas.Grind.{common_steps}
 use Rattle.numbers.specs.Numbers.{marked, written}
 use Rattle.numbers.specs.Theorems.{NumberLength}
