@@ -52,6 +52,7 @@ fn fit(numbers: &[u32], room: usize) -> bool
 }
 
 // Writes several numbers, one after another, as `write_number` does one.
+#[tactic(auto, using(crate::proofs::Laid::lays))]
 pub fn write_numbers(numbers: &[u32], out: &mut [u8]) -> Result<usize, Refusal>
     ensures told { result ≡ room_for (written_all numbers.now) out.old }
     ensures bytes { out.new ≡ fronted (written_all numbers.now) out.old }
