@@ -1,13 +1,14 @@
 -- The bytes of a number, group by group. Assumes nothing.
-use Rattle.std.proofs.Common.{◌≡◌, ℕ, zero, suc, ◌+◌, ◌/◌, ◌%◌, ◌^◌, ◌<◌, ◌≤◌, List, [], ◌∷◌, ◌++◌, map, length, drop, set, sym, ap, ◌∙◌, append_assoc, pow-suc, arith, length-append}
+use Rattle.std.proofs.Common.{◌≡◌, ℕ, ◌*◌, zero, suc, refl, ◌-◌, ◌+◌, ◌/◌, ◌%◌, ◌^◌, ◌<◌, ◌≤◌, List, [], ◌∷◌, ◌++◌, map, length, drop, set, max, ap, ◌∙◌, pow-suc, arith, length-append}
+use Rattle.std.proofs.Math.Nat.{one-le-pow}
 use lib.Bits.{bit_and, bit_or}
 use lib.ListN.{length-map}
 use Rattle.std.specs.Int.Digits.{digits_of}
 use Rattle.std.proofs.lemmas.Int.Digits.{digits_of_step, length-digits_of-le}
 use Rattle.std.proofs.lemmas.Nat.{and_mask, or_shifted}
-use Rattle.std.proofs.lemmas.List.{map_push, drop-set, drop-set-lt}
-use Rattle.std.proofs.lemmas.Bool.{le-leb}
-use Rattle.numbers.specs.Numbers.{marked, written, fronted}
+use Rattle.std.proofs.lemmas.List.{map_push, length-set}
+use Rattle.std.proofs.lemmas.Grind.{common_steps}
+use Rattle.numbers.specs.Numbers.{marked, written}
 use Rattle.numbers.specs.Theorems.{NumberLength}
 
 -- one group more, at the end
@@ -29,32 +30,30 @@ number_length k n small =
     let most = length-marked k (n / 128) (omega (arith, pow-suc 128 k)) in
     (omega (arith, length-written n), omega (arith, length-written n))
 
+-- how many bytes the highest power of 128 in a number tells
+pub length_by_power : (n k : ℕ) → 128 ^ k ≤ max n 1 → max n 1 < 128 * 128 ^ k → k + 1 ≡ length (written n)
+length_by_power n zero large small = omega (arith, number_length 0 n (omega arith))
+length_by_power n (suc k) large small =
+    let next = pow-suc 128 k in
+    let some = one-le-pow k 128 (omega arith) in
+    let fewer = length_by_power (n / 128) k (omega arith) (omega arith) in
+    omega (arith, fewer, length-written n, length-written (n / 128), length-marked_step (n / 128) (omega arith))
+
 -- what the writer computes of a group
-pub last_byte : (n : ℕ) → bit_and n 127 ≡ n % 128
-last_byte n = and_mask n 7
+marked_byte : (n : ℕ) → bit_or 128 (bit_and n 127) ≡ 128 + n % 128
+marked_byte n = ap (bit_or 128) (and_mask n 7) ∙ or_shifted 1 7 (n % 128) (omega arith)
 
-pub marked_byte : (n : ℕ) → bit_or 128 (bit_and n 127) ≡ 128 + n % 128
-marked_byte n = ap (bit_or 128) (last_byte n) ∙ or_shifted 1 7 (n % 128) (omega arith)
-
--- the last byte is written first, and then each marked one below it
-last_by : (n i : ℕ) (out : List ℕ) (b : ℕ) → i < length out → b ≡ n % 128 → marked (n / 128) ++ drop i (set out i b) ≡ written n ++ drop (i + 1) (set out i b)
+-- the last group is written first, and then each marked one before it
+pub put_last : (n k : ℕ) (out : List ℕ) → k ≡ length (written n) → k ≤ length out → marked (n / 128) ++ drop (k - 1) (set out (k - 1) (bit_and n 127)) ≡ written n ++ drop k out
 unfolding written
-last_by n i out b inside is =
-    rw (drop-set out i b inside, drop-set-lt (i + 1) out i b (omega arith), is) (sym (append_assoc (marked (n / 128)) (n % 128 ∷ []) (drop (i + 1) out)))
+put_last n k out long room = grind (arith, common_steps)
 
-pub place_last : (n i : ℕ) (out : List ℕ) (b : ℕ) → length (marked (n / 128)) ≡ i → i < length out → b ≡ n % 128
-    → marked (n / 128) ++ drop i (set out i b) ≡ written n ++ drop (length (written n)) (set out i b)
-place_last n i out b long inside is =
-    let e : length (written n) ≡ i + 1 = omega (arith, length-written n) in
-    rw e (last_by n i out b inside is)
+pub put_more : (h k : ℕ) (out : List ℕ) → length (marked h) ≡ k → 0 < k → k ≤ length out → marked (h / 128) ++ drop (k - 1) (set out (k - 1) (bit_or 128 (bit_and h 127))) ≡ marked h ++ drop k out
+put_more zero k out long some room = absurd (omega arith)
+put_more (suc h) k out long some room = rw (marked_byte (suc h), marked_step (suc h) (omega arith)) (grind (arith, common_steps))
 
-pub place_more : (h i : ℕ) (out : List ℕ) (b : ℕ) (all : List ℕ) → 0 < h → i < length out → b ≡ 128 + h % 128
-    → marked h ++ drop (i + 1) out ≡ all → marked (h / 128) ++ drop i (set out i b) ≡ all
-place_more h i out b all some inside is so =
-    rw (drop-set out i b inside, is) (sym (append_assoc (marked (h / 128)) ((128 + h % 128) ∷ []) (drop (i + 1) out)) ∙ ap (λ l. l ++ drop (i + 1) out) (sym (marked_step h some)) ∙ so)
+pub fewer_marked : (h : ℕ) → length (marked (h / 128)) ≡ length (marked h) - 1
+fewer_marked zero = refl
+fewer_marked (suc h) = omega (arith, length-marked_step (suc h) (omega arith))
 
--- all is written
-pub placed_all : (xs start out was : List ℕ) (i h : ℕ) → h ≡ 0 → length (marked h) ≡ i → marked h ++ drop i out ≡ xs ++ drop (length xs) start
-    → drop (length xs) start ≡ drop (length xs) was → length xs ≤ length was → out ≡ fronted xs was
-placed_all xs start out was i zero none long so same room = rw (le-leb (length xs) (length was) room) (rw (sym long) at so ∙ ap (λ l. xs ++ l) same)
-placed_all xs start out was i (suc h) none long so same room = absurd (omega arith)
+pub ruleset writes = (length-set, length-written, fewer_marked, put_last, put_more)

@@ -1,6 +1,6 @@
 // Numbers in groups of seven bits, the highest group first, every byte but the last with its top bit set.
 ghost use Rattle.std.specs.Prelude.{◌≡◌, length, drop, nat_le};
-ghost use Rattle.numbers.specs.Numbers.{written, written_all, fronted, room_for, read_groups, read_number};
+ghost use Rattle.numbers.specs.Numbers.{written, written_all, fronted, room_for, refuse, read_groups, read_number};
 
 use super::refusal::Refusal;
 
@@ -22,16 +22,11 @@ pub struct Decoded {
 pub fn number_len(n: u32) -> usize
     ensures { result ≡ length (written n) }
 {
-    let mut len = 1;
-    let mut rest = n >> 7;
-    while rest > 0 {
-        len += 1;
-        rest >>= 7;
-    }
-    len
+    n.max(1).ilog(128) as usize + 1
 }
 
 // Writes the number to the front of `out` and tells its length; where there is too little room, nothing is touched.
+#[tactic(auto, using(crate::proofs::Groups::writes))]
 pub fn write_number(n: u32, out: &mut [u8]) -> Result<usize, Refusal>
     ensures told { result ≡ room_for (written n) out.old }
     ensures bytes { out.new ≡ fronted (written n) out.old }
@@ -40,11 +35,9 @@ pub fn write_number(n: u32, out: &mut [u8]) -> Result<usize, Refusal>
     if out.len() < len {
         return Err(Refusal::Narrow);
     }
-    let mut i = len - 1;
-    out[i] = (n & 0x7f) as u8;
+    out[len - 1] = (n & 0x7f) as u8;
     let mut rest = n >> 7;
-    while rest != 0 {
-        i -= 1;
+    for i in (0..len - 1).rev() {
         out[i] = 0x80 | (rest & 0x7f) as u8;
         rest >>= 7;
     }
@@ -55,18 +48,11 @@ pub fn write_number(n: u32, out: &mut [u8]) -> Result<usize, Refusal>
 fn fit(numbers: &[u32], room: usize) -> bool
     ensures { result ≡ nat_le (length (written_all numbers.now)) room }
 {
-    let mut left = room;
-    for n in numbers {
-        let len = number_len(*n);
-        if left < len {
-            return false;
-        }
-        left -= len;
-    }
-    true
+    numbers.iter().copied().map(number_len).sum::<usize>() <= room
 }
 
 // Writes several numbers, one after another, as `write_number` does one.
+#[tactic(auto, using(crate::proofs::Laid::lays))]
 pub fn write_numbers(numbers: &[u32], out: &mut [u8]) -> Result<usize, Refusal>
     ensures told { result ≡ room_for (written_all numbers.now) out.old }
     ensures bytes { out.new ≡ fronted (written_all numbers.now) out.old }
@@ -81,39 +67,38 @@ pub fn write_numbers(numbers: &[u32], out: &mut [u8]) -> Result<usize, Refusal>
     Ok(at)
 }
 
+// The refusal of the number that begins at a place.
+fn refuse(refusal: Refusal, place: usize) -> Result<Decoded, NumberFault>
+    ensures { result ≡ refuse refusal place }
+{
+    Err(NumberFault { refusal, place })
+}
+
 // The number that the groups from a place on make.
 fn read_groups(bytes: &[u8], at: usize) -> Result<Decoded, NumberFault>
     ensures { result ≡ read_groups at (drop at bytes.now) }
 {
     let mut high: u32 = 0;
-    let mut i = at;
-    let value = loop {
-        if i >= bytes.len() {
-            return Err(NumberFault {
-                refusal: Refusal::Short,
-                place: at,
-            });
-        }
-        let byte = bytes[i];
+    let mut groups = bytes.iter().skip(at).enumerate();
+    let (value, last) = loop {
+        let Some((i, &byte)) = groups.next() else {
+            return refuse(Refusal::Short, at);
+        };
         if byte < 0x80 {
             if high > u32::MAX >> 7 {
-                return Err(NumberFault {
-                    refusal: Refusal::Wide,
-                    place: at,
-                });
+                return refuse(Refusal::Wide, at);
             }
-            break high << 7 | byte as u32;
+            break (high << 7 | u32::from(byte), i);
         }
-        if i - at == 4 {
-            return Err(NumberFault {
-                refusal: Refusal::Wide,
-                place: at,
-            });
+        if i == 4 {
+            return refuse(Refusal::Wide, at);
         }
-        high = high << 7 | (byte & 0x7f) as u32;
-        i += 1;
+        high = high << 7 | u32::from(byte & 0x7f);
     };
-    Ok(Decoded { value, next: i + 1 })
+    Ok(Decoded {
+        value,
+        next: at + last + 1,
+    })
 }
 
 // The number that begins at a place of the bytes.
@@ -121,10 +106,7 @@ pub fn read_number(bytes: &[u8], at: usize) -> Result<Decoded, NumberFault>
     ensures { result ≡ read_number bytes.now at }
 {
     if at < bytes.len() && bytes[at] == 0x80 {
-        return Err(NumberFault {
-            refusal: Refusal::Padded,
-            place: at,
-        });
+        return refuse(Refusal::Padded, at);
     }
     read_groups(bytes, at)
 }

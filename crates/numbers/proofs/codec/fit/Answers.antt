@@ -1,23 +1,19 @@
-use Rattle.std.proofs.Common.{◌≡◌, ◌+◌, length, take, sym, ap, arith}
-use Rattle.std.proofs.lemmas.List.{take_all}
-use Rattle.std.proofs.lemmas.Bool.{lt-leb, le-leb}
-use Rattle.numbers.specs.Numbers.{written_all}
-use Rattle.numbers.proofs.Laid.{written_all-nil, length_more, length_front}
+use Rattle.std.proofs.Common.{ℕ, ◌^◌, ◌<◌, ◌≤◌, List, length, get_or, Fits, w32, arith, rules}
+use Rattle.std.specs.List.{sum_by}
+use Rattle.std.proofs.lemmas.List.Concat.{length-flat_map}
+use Rattle.std.proofs.lemmas.List.Elements.{All-from_get_or}
+use Rattle.std.proofs.lemmas.List.Sums.{sum_by-le}
+use Rattle.numbers.specs.Numbers.{written, written_all}
+use Rattle.numbers.proofs.Groups.{number_length}
 use Rattle.numbers.proofs.codec.fit.Goals as goal
 
-pub loop-n-init : goal.loop-n-init
-loop-n-init c = omega (arith, ap length written_all-nil)
+-- each number has five bytes at most, and takes four in the slice
+fits : (ns : List ℕ) → length ns < 2 ^ 61 → ((i : ℕ) → Fits w32 (get_or ns i 0)) → sum_by (λ n. length (written n)) ns < 2 ^ 64
+fits ns few each = omega (arith, sum_by-le (λ n. length (written n)) 5 ns (All-from_get_or (λ n. length (written n) ≤ 5) ns 0 (λ i inside. (number_length 4 (get_or ns i 0) (omega (arith, each i))).1)))
 
-pub returns-then-left-len : goal.returns-then-left-len
-returns-then-left-len c =
-    let more = length_more c.args.numbers.now c.loop-n.n-index (omega arith) in
-    let front = length_front c.args.numbers.now (c.loop-n.n-index + 1) in
-    sym (lt-leb (length (written_all c.args.numbers.now)) c.args.room (omega (arith, c.loop-n.invariant)))
-
-pub loop-n-preserved : goal.loop-n-preserved
-loop-n-preserved c = let more = length_more c.args.numbers.now c.loop-n.n-index (omega arith) in omega (arith, c.loop-n.invariant)
+pub sum-requires-clause-fits : goal.sum-requires-clause-fits
+sum-requires-clause-fits c = let small = fits c.args.numbers.now (omega arith) c.type_inv.numbers in search rules
 
 pub returns : goal.returns
-returns c =
-    let all : take c.loop-n.n-index c.args.numbers.now ≡ c.args.numbers.now = take_all c.loop-n.n-index c.args.numbers.now (omega arith) in
-    sym (le-leb (length (written_all c.args.numbers.now)) c.args.room (omega (arith, c.loop-n.invariant, ap (λ l. length (written_all l)) all)))
+unfolding written_all
+returns c = rw length-flat_map (search rules)
