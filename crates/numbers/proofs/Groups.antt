@@ -12,13 +12,13 @@ use Rattle.numbers.specs.Numbers.{marked, written}
 use Rattle.numbers.specs.Theorems.{NumberLength}
 
 -- one group more, at the end
-pub marked_step : (h : ℕ) → 0 < h → marked h ≡ marked (h / 128) ++ ((128 + h % 128) ∷ [])
+marked_step : (h : ℕ) → 0 < h → marked h ≡ marked (h / 128) ++ ((128 + h % 128) ∷ [])
 marked_step h some = ap (map (λ d. 128 + d)) (digits_of_step 128 h (omega arith) some) ∙ map_push (λ d. 128 + d) (digits_of 128 (h / 128)) (h % 128)
 
-pub length-marked_step : (h : ℕ) → 0 < h → length (marked h) ≡ length (marked (h / 128)) + 1
+length-marked_step : (h : ℕ) → 0 < h → length (marked h) ≡ length (marked (h / 128)) + 1
 length-marked_step h some = ap length (marked_step h some) ∙ length-append (marked (h / 128)) ((128 + h % 128) ∷ [])
 
-pub length-marked : (k h : ℕ) → h < 128 ^ k → length (marked h) ≤ k
+length-marked : (k h : ℕ) → h < 128 ^ k → length (marked h) ≤ k
 length-marked k h small = omega (arith, length-map (digits_of 128 h) (λ d. 128 + d), length-digits_of-le 128 k h (omega arith) small)
 
 pub length-written : (n : ℕ) → length (written n) ≡ length (marked (n / 128)) + 1

@@ -21,7 +21,7 @@ under_low : (bs : List ℕ) → AllBelowBase 128 (map (λ b. b % 128) bs)
 under_low [] = tt
 under_low (b ∷ bs) = (omega arith, under_low bs)
 
-pub value_lt : (bs : List ℕ) → value_of bs < 128 ^ length bs
+value_lt : (bs : List ℕ) → value_of bs < 128 ^ length bs
 value_lt bs = rw (length-map bs (λ b. b % 128)) at (number_lt 128 (map (λ b. b % 128) bs) (under_low bs))
 
 -- what the reader computes of a group
