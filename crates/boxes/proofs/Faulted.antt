@@ -28,10 +28,10 @@ unless_none ((false, e) ∷ faults) x h = unless_none faults x h
 
 ok_from_mapped : {X D E : Type 0} (up : D → E) (r : Result X D) (x : X) → Ok x ≡ result_map_both (λ z. z) up r → r ≡ Ok x
 ok_from_mapped up (Ok y) x e = let same : x ≡ y = cc in ap Ok (sym same)
-ok_from_mapped up (Err d) x e = let z : ◌≡◌ {A = ℕ} 0 1 = cc in absurd (omega arith)
+ok_from_mapped up (Err d) x e = absurd cc
 
 err_from_mapped : {X D E : Type 0} (up : D → E) (r : Result X D) (f : E) → Err f ≡ result_map_both (λ z. z) up r → (d : D) × (r ≡ Err d) × (f ≡ up d)
-err_from_mapped up (Ok y) f e = let z : ◌≡◌ {A = ℕ} 0 1 = cc in absurd (omega arith)
+err_from_mapped up (Ok y) f e = absurd cc
 err_from_mapped up (Err d) f e = (d, refl, cc)
 
 -- a hearing that a fault of the box itself ends

@@ -11,7 +11,7 @@ module _ {K : Type 0} (size : ℕ) (named : List ℕ → Option K) (b : Held K) 
   -- the first voice is that of some bytes told
   spoken : (told : List (List ℕ)) (f : Frame K) → first_voice size named b q told ≡ Some f → (x : List ℕ) × ContainsAt told x × (voice size named b q x ≡ Some f)
   unfolding first_voice
-  spoken [] f e = let z : ◌≡◌ {A = ℕ} 0 1 = cc in absurd (omega arith)
+  spoken [] f e = absurd cc
   spoken (x ∷ more) f e = by (voice size named b q x) refl e (spoken more)
     where
       by : (o : Option (Frame K)) → voice size named b q x ≡ o → option_or o (first_voice size named b q more) ≡ Some f
@@ -29,7 +29,7 @@ module _ {K : Type 0} (size : ℕ) (named : List ℕ → Option K) (b : Held K) 
       by : (o : Option (Frame K)) → voice size named b q x ≡ o → option_or o (first_voice size named b q more) ≡ None
           → (first_voice size named b q more ≡ None → AllByRecursion (λ y. voice size named b q y ≡ None) more)
           → AllByRecursion (λ y. voice size named b q y ≡ None) (x ∷ more)
-      by (Some g) is e later = let z : ◌≡◌ {A = ℕ} 0 1 = cc in absurd (omega arith)
+      by (Some g) is e later = absurd cc
       by None is e later = (is, later e)
 
   pub same_voice : (told again : List (List ℕ))
@@ -40,7 +40,7 @@ module _ {K : Type 0} (size : ℕ) (named : List ℕ → Option K) (b : Held K) 
     where
       -- bytes that speak are not silent
       never : (said : List (List ℕ)) (x : List ℕ) (f : Frame K) → first_voice size named b q said ≡ None → ContainsAt said x → voice size named b q x ≡ Some f → ⊥
-      never said x f none has is = let n = all-has (λ y. voice size named b q y ≡ None) said x (silent said none) has in let z : ◌≡◌ {A = ℕ} 0 1 = cc in omega arith
+      never said x f none has is = let n = all-has (λ y. voice size named b q y ≡ None) said x (silent said none) has in cc
 
       by : (o p : Option (Frame K)) → first_voice size named b q told ≡ o → first_voice size named b q again ≡ p → o ≡ p
       by None None e d = refl

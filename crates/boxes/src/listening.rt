@@ -30,7 +30,7 @@ impl<K: Kind> Notes<K> {
     }
 }
 
-// A copy, which takes no memory. By hand, since `Clone` is not derived for a struct with ghost fields.
+// A copy, which takes no memory. By hand, since `Clone` is not derived for a generic struct with ghost fields.
 impl<K: Copy> Clone for Listening<K> {
     ghost is_clone = { λ b c. c ≡ b };
 
@@ -129,13 +129,7 @@ impl<K: Kind> Listening<K> {
     pub fn close(self) -> Result<Closed<K>, (Listening<K>, BoxFault)>
         ensures { result_map_both outcome (λ e. e) result ≡ result_map_both (λ o. o) (λ e. (self, e)) (closing self.at.held self.notes) }
     {
-        let Held {
-            number,
-            n,
-            t,
-            horizon,
-            ..
-        } = self.at.held;
+        let Held { t, horizon, .. } = self.at.held;
         let known = self.notes.known;
         let unheard = self.unheard();
         if unheard.count() > t || !known.is_subset(unheard) {
@@ -151,13 +145,11 @@ impl<K: Kind> Listening<K> {
         }
         Ok(Closed::Rests(Resting {
             held: Held {
-                number,
-                n,
-                t,
                 closed: round.0,
                 estimate: self.notes.foremost,
                 missing: unheard,
                 horizon: RoundNumber(best),
+                ..self.at.held
             },
         }))
     }

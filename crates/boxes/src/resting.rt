@@ -17,7 +17,7 @@ const LEAST_COMPANY: u32 = 2;
 
 const MOST_COMPANY: u32 = 32;
 
-// A copy, which takes no memory. By hand, since `Clone` is not derived for a struct with ghost fields.
+// A copy, which takes no memory. By hand, since `Clone` is not derived for a generic struct with ghost fields.
 impl<K: Copy> Clone for Resting<K> {
     ghost is_clone = { λ b c. c ≡ b };
 

@@ -83,8 +83,7 @@ impl FrameFault {
     {
         match self {
             FrameFault::Number(f) => f.fault.place,
-            FrameFault::Image { place } => place,
-            FrameFault::Surplus { place } => place,
+            FrameFault::Image { place } | FrameFault::Surplus { place } => place,
         }
     }
 }

@@ -13,7 +13,7 @@ impl fmt::Display for HexBytes<'_> {
 
     fn fmt<W: fmt::Write>(&self, f: &mut fmt::Formatter<W>) -> fmt::Result {
         for byte in self.0 {
-            write!(f, " {:x}{:x}", byte >> 4, byte & 0xf)?;
+            write!(f, " {byte:02x}")?;
         }
         Ok(())
     }

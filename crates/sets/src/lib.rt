@@ -1,3 +1,4 @@
+// Boxes and rounds by number, and sets of boxes as 32-bit masks.
 #![tactic(auto)]
 
 mod labels;

@@ -91,7 +91,7 @@ impl BoxSet {
     pub fn count(self) -> u32
         ensures { result ≡ count (member self) 32 }
     {
-        u32::count_ones(self.mask)
+        self.mask.count_ones()
     }
 
     // Whether all its boxes are numbered below n.
