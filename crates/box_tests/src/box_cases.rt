@@ -1,4 +1,5 @@
 // Boxes of pieces, made, told frames in bytes, and closed.
+// What is written goes into an array that is lent, as in a device, and the byte behind is looked at.
 use boxes::{BoxFault, Closed, Listening, Resting};
 use frames::Field;
 use kinds::Piece;
@@ -32,35 +33,20 @@ fn opened(b: Resting<Piece>, frames: &[[u8; 4]]) -> Result<Listening<Piece>, Box
     Ok(ear)
 }
 
-// The box itself refuses the frame.
+// The box refuses the bytes: at a field and a place where they hold no frame, or of its own accord.
 fn refuses(
     rt: &impl Abort,
     ear: &mut Listening<Piece>,
     bytes: &[u8],
     round: u32,
     refusal: Refusal,
+    at: Option<(Field, usize)>,
 ) -> Result<(), Fail> {
     let fault = ear.hear(bytes).err().ok_or("it was heard")?;
     assert_eq!(rt; fault.refusal(), refusal);
     assert_eq!(rt; fault.round(), RoundNumber(round));
-    assert!(rt; fault.field().is_none() && fault.place().is_none());
-    Ok(())
-}
-
-// The bytes hold no frame.
-fn refuses_frame(
-    rt: &impl Abort,
-    ear: &mut Listening<Piece>,
-    bytes: &[u8],
-    refusal: Refusal,
-    field: Field,
-    place: usize,
-) -> Result<(), Fail> {
-    let fault = ear.hear(bytes).err().ok_or("it was heard")?;
-    assert_eq!(rt; fault.refusal(), refusal);
-    assert_eq!(rt; fault.round(), RoundNumber(1));
-    assert_eq!(rt; fault.field(), Some(field));
-    assert_eq!(rt; fault.place(), Some(place));
+    assert_eq!(rt; fault.field(), at.map(|(field, _)| field));
+    assert_eq!(rt; fault.place(), at.map(|(_, place)| place));
     Ok(())
 }
 
@@ -107,7 +93,7 @@ fn holds(rt: &impl Abort, b: Resting<Piece>, closed: u32, piece: u16, missing: u
 #[test]
 fn made_boxes(rt: HostRuntime) -> Result<(), Fail> {
     let b = made(3, 4, 2, 20)?;
-    assert!(rt; b.number() == BoxNumber(3) && b.n() == 4 && b.t() == 2);
+    assert_eq!(rt; (b.number(), b.n(), b.t()), (BoxNumber(3), 4, 2));
     holds(&rt, b, 0, 20, 0, 3);
     making_refuses(&rt, 0, 1, 1, Refusal::Company)?;
     making_refuses(&rt, 0, 33, 1, Refusal::Company)?;
@@ -136,38 +122,45 @@ fn composed_frames(rt: HostRuntime) -> Result<(), Fail> {
 #[test]
 fn frames_at_fault(rt: HostRuntime) -> Result<(), Fail> {
     let mut ear = made(0, 4, 2, 30)?.open();
-    refuses_frame(&rt, &mut ear, b"\x01\x01", Refusal::Short, Field::Set, 2)?;
-    refuses_frame(
+    refuses(
+        &rt,
+        &mut ear,
+        b"\x01\x01",
+        1,
+        Refusal::Short,
+        Some((Field::Set, 2)),
+    )?;
+    refuses(
         &rt,
         &mut ear,
         b"\x01\x90\x80\x80\x80\x00\x00\x14",
-        Refusal::Wide,
-        Field::Sender,
         1,
+        Refusal::Wide,
+        Some((Field::Sender, 1)),
     )?;
-    refuses_frame(
+    refuses(
         &rt,
         &mut ear,
         b"\x80\x01\x01\x00\x14",
+        1,
         Refusal::Padded,
-        Field::Round,
-        0,
+        Some((Field::Round, 0)),
     )?;
-    refuses_frame(
+    refuses(
         &rt,
         &mut ear,
         b"\x01\x01\x00\x14\x00",
+        1,
         Refusal::Surplus,
-        Field::End,
-        4,
+        Some((Field::End, 4)),
     )?;
-    refuses_frame(
+    refuses(
         &rt,
         &mut ear,
         b"\x01\x01\x00\x81\x80\x00",
+        1,
         Refusal::Image,
-        Field::Image,
-        3,
+        Some((Field::Image, 3)),
     )
 }
 
@@ -175,31 +168,59 @@ fn frames_at_fault(rt: HostRuntime) -> Result<(), Fail> {
 fn frames_refused_by_the_box(rt: HostRuntime) -> Result<(), Fail> {
     let mut ear = made(0, 4, 2, 30)?.open();
     assert_eq!(rt; ear.number(), BoxNumber(0));
-    refuses(&rt, &mut ear, b"\x02\x01\x00\x14", 1, Refusal::OffBeat)?;
-    refuses(&rt, &mut ear, b"\x01\x04\x00\x14", 1, Refusal::Stranger)?;
+    refuses(
+        &rt,
+        &mut ear,
+        b"\x02\x01\x00\x14",
+        1,
+        Refusal::OffBeat,
+        None,
+    )?;
+    refuses(
+        &rt,
+        &mut ear,
+        b"\x01\x04\x00\x14",
+        1,
+        Refusal::Stranger,
+        None,
+    )?;
     // Its own frame.
-    refuses(&rt, &mut ear, b"\x01\x00\x00\x1e", 1, Refusal::Heard)?;
+    refuses(&rt, &mut ear, b"\x01\x00\x00\x1e", 1, Refusal::Heard, None)?;
     ear.hear(b"\x01\x01\x00\x14")?;
     // A frame heard twice.
-    refuses(&rt, &mut ear, b"\x01\x01\x00\x14", 1, Refusal::Heard)?;
+    refuses(&rt, &mut ear, b"\x01\x01\x00\x14", 1, Refusal::Heard, None)?;
     // A bit from n on.
-    refuses(&rt, &mut ear, b"\x01\x02\x10\x0a", 1, Refusal::Set)?;
+    refuses(&rt, &mut ear, b"\x01\x02\x10\x0a", 1, Refusal::Set, None)?;
     // The sender's bit.
-    refuses(&rt, &mut ear, b"\x01\x02\x04\x0a", 1, Refusal::Set)?;
+    refuses(&rt, &mut ear, b"\x01\x02\x04\x0a", 1, Refusal::Set, None)?;
     // The hearer's bit.
-    refuses(&rt, &mut ear, b"\x01\x02\x01\x0a", 1, Refusal::Set)?;
+    refuses(&rt, &mut ear, b"\x01\x02\x01\x0a", 1, Refusal::Set, None)?;
     // The round first.
-    refuses(&rt, &mut ear, b"\x02\x04\x10\x0a", 1, Refusal::OffBeat)?;
+    refuses(
+        &rt,
+        &mut ear,
+        b"\x02\x04\x10\x0a",
+        1,
+        Refusal::OffBeat,
+        None,
+    )?;
     // Then the sender.
-    refuses(&rt, &mut ear, b"\x01\x04\x11\x0a", 1, Refusal::Stranger)?;
+    refuses(
+        &rt,
+        &mut ear,
+        b"\x01\x04\x11\x0a",
+        1,
+        Refusal::Stranger,
+        None,
+    )?;
     // Then who was heard, before the set.
-    refuses(&rt, &mut ear, b"\x01\x01\x10\x0a", 1, Refusal::Heard)?;
+    refuses(&rt, &mut ear, b"\x01\x01\x10\x0a", 1, Refusal::Heard, None)?;
     let b = rests(ear)?;
     holds(&rt, b, 1, 20, 0x0c, 3);
     let mut ear = b.open();
-    refuses(&rt, &mut ear, b"\x02\x02\x00\x0a", 2, Refusal::Down)?;
+    refuses(&rt, &mut ear, b"\x02\x02\x00\x0a", 2, Refusal::Down, None)?;
     // Who is missing, before the set.
-    refuses(&rt, &mut ear, b"\x02\x03\x01\x0a", 2, Refusal::Down)
+    refuses(&rt, &mut ear, b"\x02\x03\x01\x0a", 2, Refusal::Down, None)
 }
 
 #[test]
@@ -207,7 +228,7 @@ fn too_many_missing(rt: HostRuntime) -> Result<(), Fail> {
     let ear = opened(made(0, 4, 1, 30)?, &[*b"\x01\x01\x00\x14"])?;
     let mut ear = still_listens(&rt, ear, 1)?;
     // What was heard stays heard.
-    refuses(&rt, &mut ear, b"\x01\x01\x00\x14", 1, Refusal::Heard)?;
+    refuses(&rt, &mut ear, b"\x01\x01\x00\x14", 1, Refusal::Heard, None)?;
     ear.hear(b"\x01\x02\x00\x0a")?;
     holds(&rt, rests(ear)?, 1, 10, 0x08, 2);
     Ok(())
@@ -266,4 +287,14 @@ fn the_best_horizon_stays(rt: HostRuntime) -> Result<(), Fail> {
         3,
         20,
     )
+}
+
+#[test]
+fn faults_as_text(rt: HostRuntime) -> Result<(), Fail> {
+    let mut ear = made(0, 4, 2, 30)?.open();
+    let own = ear.hear(b"\x02\x01\x00\x14").err().ok_or("it was heard")?;
+    assert!(rt; format!(in rt.alloc(); "{own}")?.as_str() == "6 off beat in round 1");
+    let met = ear.hear(b"\x01\x01").err().ok_or("it was heard")?;
+    assert!(rt; format!(in rt.alloc(); "{met}")?.as_str() == "1 short set 2 in round 1");
+    Ok(())
 }

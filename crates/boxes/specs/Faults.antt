@@ -1,6 +1,7 @@
 -- The faults of a box: refusal and round of each, and field and place of those that a frame has. Assumes nothing.
-use Rattle.std.specs.Prelude.{ℕ, Some, None, Option}
+use Rattle.std.specs.Prelude.{ℕ, List, ◌++◌, Some, None, codes, decimal, Option}
 use Rattle.numbers.specs.declared.refusal.Refusal.{Refusal}
+use Rattle.numbers.specs.Refusals.{refusal_text}
 use Rattle.sets.specs.declared.labels.RoundNumber.{RoundNumber}
 use Rattle.frames.specs.declared.fault.Field.{Field}
 use Rattle.frames.specs.Faults as frame
@@ -22,3 +23,11 @@ field_of (Own f) = None
 abbrev pub place_of : BoxFault → Option ℕ
 place_of (Frame f) = Some (frame.place_of f.fault)
 place_of (Own f) = None
+
+-- what is at fault, and the open round
+abbrev pub in_round_text : List ℕ → RoundNumber → List ℕ
+in_round_text fault round = fault ++ (codes " in round " ++ decimal round.0)
+
+abbrev pub fault_text : BoxFault → List ℕ
+fault_text (Frame f) = in_round_text (frame.fault_text f.fault) f.round
+fault_text (Own f) = in_round_text (refusal_text f.refusal) f.round

@@ -1,11 +1,13 @@
 // Faults of a box: each holds the round that was open, and the fault of a frame comes up inside.
-ghost use Rattle.std.specs.Prelude.{◌≡◌};
+ghost use Rattle.std.specs.Prelude.{◌≡◌, Some};
 ghost use Rattle.boxes.specs.declared.fault.BoxFault.TheVariants.{Frame, Own};
-ghost use Rattle.boxes.specs.Faults.{refusal_of, round_of, field_of, place_of};
+ghost use Rattle.boxes.specs.Faults.{refusal_of, round_of, field_of, place_of, fault_text};
 
 use frames::{Field, FrameFault};
 use numbers::Refusal;
 use sets::RoundNumber;
+use std::error::Error;
+use std::fmt;
 
 // The fault of a frame, with the round that was open.
 #[derive(Clone, Copy, Debug, PartialEq, Eq)]
@@ -69,6 +71,20 @@ impl BoxFault {
         }
     }
 }
+
+// What is at fault and the open round, as in `7 heard in round 1` and `3 padded set 2 in round 1`.
+impl fmt::Display for BoxFault {
+    ghost output = { λ e. Some (fault_text e) };
+
+    fn fmt<W: fmt::Write>(&self, f: &mut fmt::Formatter<W>) -> fmt::Result {
+        match self {
+            BoxFault::Frame(met) => write!(f, "{} in round {}", met.fault, met.round),
+            BoxFault::Own(met) => write!(f, "{} in round {}", met.refusal, met.round),
+        }
+    }
+}
+
+impl Error for BoxFault {}
 
 impl From<RoundFault> for BoxFault {
     ghost from_gives = { λ f r. r ≡ Frame f };

@@ -136,8 +136,8 @@ impl<K: Kind> Listening<K> {
             return Err((self, BoxFault::Own(self.own_fault(Refusal::Tally))));
         }
         let round = self.round();
-        let best = horizon.0.min(round.0 + t - known.count());
-        if best == round.0 {
+        let best = horizon.min(RoundNumber(round.0 + t - known.count()));
+        if best == round {
             return Ok(Closed::Rings {
                 round,
                 proposal: self.notes.foremost,
@@ -148,7 +148,7 @@ impl<K: Kind> Listening<K> {
                 closed: round.0,
                 estimate: self.notes.foremost,
                 missing: unheard,
-                horizon: RoundNumber(best),
+                horizon: best,
                 ..self.at.held
             },
         }))

@@ -1,7 +1,8 @@
 // Frames, read and written.
+// What is written goes into an array that is lent, as in a device, and the byte behind is looked at.
 use frames::{Field, Frame, HexBytes, read_frame, write_frame};
 use kinds::{Call, Kind, Piece};
-use numbers::Refusal;
+use numbers::{Refusal, read_number};
 use sets::{BoxNumber, BoxSet, RoundNumber};
 use std::fmt::Debug;
 use std::process::Abort;
@@ -13,7 +14,11 @@ fn holds<K: Kind + PartialEq + Debug>(
     bytes: &[u8],
     frame: Frame<K>,
 ) -> Result<(), Fail> {
-    assert_eq!(rt; read_frame::<K>(bytes)?, frame);
+    let found = read_frame::<K>(bytes)?;
+    assert_eq!(rt; found, frame);
+    assert!(rt;
+        found.estimate.may_go_first(frame.estimate) && frame.estimate.may_go_first(found.estimate)
+    );
     let mut out = [0xaa; 32];
     let len = write_frame(frame, &mut out)?;
     assert!(rt; len == bytes.len() && len < out.len());
@@ -179,6 +184,20 @@ fn fields_have_words(rt: HostRuntime) {
     for (field, word) in cases {
         assert!(rt; field.word() == word);
     }
+}
+
+#[test]
+fn numbers_boxes_rounds_and_pieces_as_text(rt: HostRuntime) -> Result<(), Fail> {
+    let fault = read_number(b"\x05\x80", 1).err().ok_or("it was read")?;
+    assert!(rt; format!(in rt.alloc(); "{fault}")?.as_str() == "3 padded 1");
+    let shown = format!(in rt.alloc();
+        "{} {} {}",
+        BoxNumber(31),
+        RoundNumber(10),
+        Piece::new(16383)?
+    )?;
+    assert!(rt; shown.as_str() == "31 10 16383");
+    Ok(())
 }
 
 #[test]

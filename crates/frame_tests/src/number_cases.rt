@@ -1,4 +1,5 @@
 // Numbers, read and written, and the refusals.
+// What is written goes into an array that is lent, as in a device, and the byte behind is looked at.
 use numbers::{Refusal, read_number, write_number};
 use std::process::Abort;
 use std::test::Fail;

@@ -41,7 +41,7 @@ fn read_field(bytes: &[u8], at: usize, field: Field) -> Result<Decoded, FieldFau
     read_number(bytes, at).map_err(|fault| FieldFault { field, fault })
 }
 
-// The three numbers in front of the image, and the place behind them.
+// The three numbers in front of the image, and the place behind them. Nothing compares or prints it.
 #[derive(Clone, Copy)]
 struct Head {
     round: RoundNumber,
@@ -65,7 +65,7 @@ fn read_head(bytes: &[u8]) -> Result<Head, FrameFault>
     })
 }
 
-// The proposal whose image begins at a place, and the place behind it.
+// The proposal whose image begins at a place, and the place behind it, which is kept beside as `write_numbers` keeps its own.
 #[tactic(auto, using(crate::proofs::Whole::reading))]
 fn read_proposal<K: Kind>(bytes: &[u8], at: usize) -> Result<(K, usize), FrameFault>
     ensures { result ≡ read_proposal K.SIZE K.named bytes.now at }

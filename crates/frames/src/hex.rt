@@ -4,7 +4,7 @@ ghost use Rattle.frames.specs.Texts.{hex_text};
 
 use std::fmt;
 
-// Each byte is written as a space and two hexadecimal digits.
+// Each byte is written as a space and two hexadecimal digits. Nothing compares it.
 #[derive(Clone, Copy)]
 pub struct HexBytes<'a>(pub &'a [u8]);
 

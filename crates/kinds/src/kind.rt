@@ -1,4 +1,5 @@
-// What a proposal is: it has an image in numbers, by which it is sent, and an order.
+// What a proposal is: it has an image in numbers, by which it is sent, and an order. The order is the kind's own and not `Ord`, since of
+// two of the three kinds a derived one would be turned round.
 ghost use Rattle.std.specs.Prelude.{◌≡◌, ℕ, ◌<◌, ◌≤◌, Bool, true, ◌⊎◌, List, length, Some, Option, slice_index};
 ghost use Rattle.std.specs.Option.{ok_or};
 ghost use Rattle.std.specs.List.{AllByRecursion};

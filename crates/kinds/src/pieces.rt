@@ -1,5 +1,5 @@
 // Pieces, made and compared.
-ghost use Rattle.std.specs.Prelude.{◌≡◌};
+ghost use Rattle.std.specs.Prelude.{◌≡◌, Some, decimal};
 ghost use Rattle.std.specs.Option.{ok_or};
 ghost use Rattle.numbers.specs.declared.refusal.Refusal.TheVariants.{Image};
 ghost use Rattle.kinds.specs.Pieces.{piece_at, piece_image, piece_named, piece_leads};
@@ -9,6 +9,7 @@ ghost use Rattle.std.proofs.Common.{rules};
 use super::kind::Kind;
 use super::proposals::Piece;
 use numbers::Refusal;
+use std::fmt;
 
 const MOST: u16 = 16383;
 
@@ -26,6 +27,15 @@ impl Piece {
         ensures { result ≡ self.number }
     {
         self.number
+    }
+}
+
+// Its number.
+impl fmt::Display for Piece {
+    ghost output = { λ p. Some (decimal p.number) };
+
+    fn fmt<W: fmt::Write>(&self, f: &mut fmt::Formatter<W>) -> fmt::Result {
+        write!(f, "{}", self.number)
     }
 }
 

@@ -1,11 +1,12 @@
 -- How a number stands in bytes: in groups of seven bits, the highest group first, and every byte but the last with its top bit set. Assumes nothing.
-use Rattle.std.specs.Prelude.{ℕ, ◌+◌, ◌/◌, ◌%◌, ◌^◌, Bool, cond, ◌&&◌, List, [], ◌∷◌, ◌++◌, map, length, take, drop, Ok, Err, Result, ◌==◌, nat_le, nat_lt, slice_index}
+use Rattle.std.specs.Prelude.{ℕ, ◌+◌, ◌/◌, ◌%◌, ◌^◌, Bool, cond, ◌&&◌, List, [], ◌∷◌, ◌++◌, map, length, take, drop, Ok, Err, codes, decimal, Result, ◌==◌, nat_le, nat_lt, slice_index}
 use Rattle.std.specs.Int.Digits.{digits_of, number_from_digits}
 use Rattle.std.specs.List.{flat_map, prefix_len}
 use Rattle.numbers.specs.declared.refusal.Refusal.{Refusal}
 use Rattle.numbers.specs.declared.refusal.Refusal.TheVariants.{Short, Wide, Padded, Narrow}
 use Rattle.numbers.specs.declared.codec.NumberFault.{NumberFault}
 use Rattle.numbers.specs.declared.codec.Decoded.{Decoded}
+use Rattle.numbers.specs.Refusals.{refusal_text}
 
 -- the groups of h, the highest first, each with the top bit set
 abbrev pub marked : ℕ → List ℕ
@@ -34,6 +35,10 @@ goes_on b = nat_le 128 b
 -- the number that the low seven bits of some bytes make, the highest group first
 abbrev pub value_of : List ℕ → ℕ
 value_of bs = number_from_digits 128 (map (λ b. b % 128) bs)
+
+-- refusal and place, with a space between
+abbrev pub fault_text : NumberFault → List ℕ
+fault_text e = refusal_text e.refusal ++ (codes " " ++ decimal e.place)
 
 abbrev pub refuse : Refusal → ℕ → Result Decoded NumberFault
 refuse e place = Err (record { refusal = e; place = place })

@@ -1,8 +1,10 @@
 // Numbers in groups of seven bits, the highest group first, every byte but the last with its top bit set.
-ghost use Rattle.std.specs.Prelude.{◌≡◌, length, drop, nat_le};
-ghost use Rattle.numbers.specs.Numbers.{written, written_all, fronted, room_for, refuse, read_groups, read_number};
+ghost use Rattle.std.specs.Prelude.{◌≡◌, length, drop, Some, nat_le};
+ghost use Rattle.numbers.specs.Numbers.{written, written_all, fronted, room_for, fault_text, refuse, read_groups, read_number};
 
 use super::refusal::Refusal;
+use std::error::Error;
+use std::fmt;
 
 // A number that was not read: why, and the place of its first byte.
 #[derive(Clone, Copy, Debug, PartialEq, Eq)]
@@ -11,6 +13,17 @@ pub struct NumberFault {
     pub place: usize,
 }
 
+// Refusal and place, as in `3 padded 4`.
+impl fmt::Display for NumberFault {
+    ghost output = { λ e. Some (fault_text e) };
+
+    fn fmt<W: fmt::Write>(&self, f: &mut fmt::Formatter<W>) -> fmt::Result {
+        write!(f, "{} {}", self.refusal, self.place)
+    }
+}
+
+impl Error for NumberFault {}
+
 // A number that was read, and the place behind its last byte.
 #[derive(Clone, Copy, Debug, PartialEq, Eq)]
 pub struct Decoded {
@@ -18,14 +31,15 @@ pub struct Decoded {
     pub next: usize,
 }
 
-// How many bytes the number takes.
+// How many bytes the number takes. No `From` leads from the logarithm's type to `usize`, hence `as`.
 pub fn number_len(n: u32) -> usize
     ensures { result ≡ length (written n) }
 {
     n.max(1).ilog(128) as usize + 1
 }
 
-// Writes the number to the front of `out` and tells its length; where there is too little room, nothing is touched.
+// Writes the number to the front of `out` and tells its length; where there is too little room, nothing is touched. A mask and `as` take
+// the low group, since nothing is to fail there. The places are a range: of what `iter_mut` lent, a proof would know the length alone.
 #[tactic(auto, using(crate::proofs::Groups::writes))]
 pub fn write_number(n: u32, out: &mut [u8]) -> Result<usize, Refusal>
     ensures told { result ≡ room_for (written n) out.old }
@@ -51,7 +65,8 @@ fn fit(numbers: &[u32], room: usize) -> bool
     numbers.iter().copied().map(number_len).sum::<usize>() <= room
 }
 
-// Writes several numbers, one after another, as `write_number` does one.
+// Writes several numbers, one after another, as `write_number` does one. The place is kept beside: a closure that `try_fold` calls would
+// change the bytes that it captures, and nothing would be known of them from one call to the next.
 #[tactic(auto, using(crate::proofs::Laid::lays))]
 pub fn write_numbers(numbers: &[u32], out: &mut [u8]) -> Result<usize, Refusal>
     ensures told { result ≡ room_for (written_all numbers.now) out.old }
@@ -74,7 +89,7 @@ fn refuse(refusal: Refusal, place: usize) -> Result<Decoded, NumberFault>
     Err(NumberFault { refusal, place })
 }
 
-// The number that the groups from a place on make.
+// The number that the groups from a place on make. Bytes and place stay two parameters here and in frames, which tells why.
 fn read_groups(bytes: &[u8], at: usize) -> Result<Decoded, NumberFault>
     ensures { result ≡ read_groups at (drop at bytes.now) }
 {

@@ -52,6 +52,7 @@ pub enum Refusal {
 }
 
 impl Refusal {
+    // By `as`, which is how an enum tells its number.
     pub fn number(self) -> u8
         ensures { result ≡ number_of self }
     {

@@ -17,10 +17,10 @@ fn show(rt: &impl Print, frame: Frame<Piece>) -> io::Result<()> {
     let mut out = [0; LONGEST];
     match write_frame(frame, &mut out) {
         Ok(len) => {
-            println!(rt; "round {}", frame.round.0)?;
-            println!(rt; "sender {}", frame.sender.0)?;
+            println!(rt; "round {}", frame.round)?;
+            println!(rt; "sender {}", frame.sender)?;
             println!(rt; "set {}", frame.missing)?;
-            println!(rt; "piece {}", frame.estimate.number())?;
+            println!(rt; "piece {}", frame.estimate)?;
             println!(rt; "bytes{}", HexBytes(&out[..len]))
         }
         Err(refusal) => println!(rt; "refused {refusal}"),

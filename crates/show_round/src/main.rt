@@ -28,19 +28,18 @@ fn company() -> Result<[Resting<Piece>; 3], Refusal> {
 fn show_box(rt: &impl Print, b: Resting<Piece>) -> io::Result<()> {
     println!(rt;
         "box {} at rest, closed {}, estimate {}, missing {}, horizon {}",
-        b.number().0,
+        b.number(),
         b.closed(),
-        b.estimate().number(),
+        b.estimate(),
         b.missing(),
-        b.horizon().0
+        b.horizon()
     )
 }
 
 fn show_fault(rt: &impl Print, hearer: BoxNumber, fault: BoxFault) -> io::Result<()> {
     println!(rt;
-        "box {} in round {}: refused {}",
-        hearer.0,
-        fault.round().0,
+        "box {hearer} in round {}: refused {}",
+        fault.round(),
         fault.refusal()
     )
 }
@@ -52,9 +51,9 @@ fn tell(rt: &impl Print, sender: Resting<Piece>, ear: &mut Listening<Piece>) -> 
         Ok(len) => &line[..len],
         Err(refusal) => return println!(rt; "refused {refusal}"),
     };
-    println!(rt; "box {} sends{}", sender.number().0, HexBytes(frame))?;
+    println!(rt; "box {} sends{}", sender.number(), HexBytes(frame))?;
     match ear.hear(frame) {
-        Ok(()) => println!(rt; "box {} hears box {}", ear.number().0, sender.number().0),
+        Ok(()) => println!(rt; "box {} hears box {}", ear.number(), sender.number()),
         Err(fault) => show_fault(rt, ear.number(), fault),
     }
 }
@@ -68,12 +67,7 @@ fn close(rt: &impl Print, ear: Listening<Piece>) -> io::Result<Option<Resting<Pi
             Ok(Some(b))
         }
         Ok(Closed::Rings { round, proposal }) => {
-            println!(rt;
-                "box {} rings in round {} on piece {}",
-                number.0,
-                round.0,
-                proposal.number()
-            )?;
+            println!(rt; "box {number} rings in round {round} on piece {proposal}")?;
             Ok(None)
         }
         Err((_, fault)) => {

@@ -31,6 +31,6 @@ invariant_of-result g c =
       within = unheard_below l u e;
       present = unheard_own l u e;
       sparse = omega arith;
-      ahead = omega arith;
-      due = omega arith;
+      ahead = grind arith;
+      due = grind arith;
     }
