@@ -1,5 +1,5 @@
 // Boxes of pieces, made, told frames in bytes, and closed.
-// What is written goes into an array that is lent, as in a device, and the byte behind is looked at.
+// What is written goes into arrays that are lent, since the library has no heap, and the byte behind is looked at.
 use boxes::{BoxFault, Closed, Listening, Resting};
 use frames::Field;
 use kinds::Piece;
@@ -8,20 +8,13 @@ use sets::{BoxNumber, BoxSet, RoundNumber};
 use std::process::Abort;
 use std::test::Fail;
 
+// n and t stay two parameters, as in the library.
 fn made(number: u32, n: u32, t: u32, piece: u16) -> Result<Resting<Piece>, Refusal> {
     Resting::new(BoxNumber(number), n, t, Piece::new(piece)?)
 }
 
-fn making_refuses(
-    rt: &impl Abort,
-    number: u32,
-    n: u32,
-    t: u32,
-    refusal: Refusal,
-) -> Result<(), Fail> {
-    let found = made(number, n, t, 20).err().ok_or("it was made")?;
-    assert_eq!(rt; found, refusal);
-    Ok(())
+fn making_refuses(rt: &impl Abort, number: u32, n: u32, t: u32, refusal: Refusal) {
+    assert_eq!(rt; made(number, n, t, 20), Err(refusal));
 }
 
 // The box opens its next round and hears these frames.
@@ -95,13 +88,13 @@ fn made_boxes(rt: HostRuntime) -> Result<(), Fail> {
     let b = made(3, 4, 2, 20)?;
     assert_eq!(rt; (b.number(), b.n(), b.t()), (BoxNumber(3), 4, 2));
     holds(&rt, b, 0, 20, 0, 3);
-    making_refuses(&rt, 0, 1, 1, Refusal::Company)?;
-    making_refuses(&rt, 0, 33, 1, Refusal::Company)?;
-    making_refuses(&rt, 0, 4, 0, Refusal::Company)?;
-    making_refuses(&rt, 0, 4, 4, Refusal::Company)?;
-    making_refuses(&rt, 4, 4, 2, Refusal::Stranger)?;
+    making_refuses(&rt, 0, 1, 1, Refusal::Company);
+    making_refuses(&rt, 0, 33, 1, Refusal::Company);
+    making_refuses(&rt, 0, 4, 0, Refusal::Company);
+    making_refuses(&rt, 0, 4, 4, Refusal::Company);
+    making_refuses(&rt, 4, 4, 2, Refusal::Stranger);
     // The company before the number.
-    making_refuses(&rt, 4, 4, 4, Refusal::Company)?;
+    making_refuses(&rt, 4, 4, 4, Refusal::Company);
     let last = made(31, 32, 31, 20)?;
     holds(&rt, last, 0, 20, 0, 32);
     Ok(())
@@ -114,8 +107,8 @@ fn composed_frames(rt: HostRuntime) -> Result<(), Fail> {
     let len = b.compose(&mut out)?;
     assert!(rt; len == 5 && out == *b"\x01\x03\x00\x81\x48\xaa");
     let mut short = [0xaa; 4];
-    let refusal = b.compose(&mut short).err().ok_or("it was composed")?;
-    assert!(rt; refusal == Refusal::Narrow && short == [0xaa; 4]);
+    assert_eq!(rt; b.compose(&mut short), Err(Refusal::Narrow));
+    assert!(rt; short == [0xaa; 4]);
     Ok(())
 }
 

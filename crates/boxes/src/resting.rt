@@ -29,7 +29,7 @@ impl<K: Copy> Clone for Resting<K> {
 }
 
 impl<K: Kind> Resting<K> {
-    // A new box of a company of n, of which t may fall, with its proposal.
+    // A new box of a company of n, of which t may fall, with its proposal. n and t stay two parameters, as `Held` tells.
     pub fn new(number: BoxNumber, n: u32, t: u32, proposal: K) -> Result<Resting<K>, Refusal>
         ensures { result_map_both (λ b. b.held) (λ e. e) result ≡ new_box number n t proposal }
     {
@@ -58,7 +58,7 @@ impl<K: Kind> Resting<K> {
         self.held.number
     }
 
-    // How many boxes its company has.
+    // How many boxes its company has. By a pattern, since its must-fail edit needs a text that stands once.
     pub fn n(self) -> u32
         ensures { result ≡ self.held.n }
     {

@@ -1,5 +1,5 @@
 // Frames, read and written.
-// What is written goes into an array that is lent, as in a device, and the byte behind is looked at.
+// What is written goes into arrays that are lent, since the library has no heap, and the byte behind is looked at.
 use frames::{Field, Frame, HexBytes, read_frame, write_frame};
 use kinds::{Call, Kind, Piece};
 use numbers::{Refusal, read_number};
@@ -16,6 +16,7 @@ fn holds<K: Kind + PartialEq + Debug>(
 ) -> Result<(), Fail> {
     let found = read_frame::<K>(bytes)?;
     assert_eq!(rt; found, frame);
+    // A proposal may go first of itself.
     assert!(rt;
         found.estimate.may_go_first(frame.estimate) && frame.estimate.may_go_first(found.estimate)
     );
@@ -99,8 +100,8 @@ fn longest_frames(rt: HostRuntime) -> Result<(), Fail> {
         frame,
     )?;
     let mut out = [0xaa; 17];
-    let refusal = write_frame(frame, &mut out).err().ok_or("it was written")?;
-    assert!(rt; refusal == Refusal::Narrow && out == [0xaa; 17]);
+    assert_eq!(rt; write_frame(frame, &mut out), Err(Refusal::Narrow));
+    assert!(rt; out == [0xaa; 17]);
     Ok(())
 }
 

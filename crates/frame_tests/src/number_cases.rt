@@ -1,22 +1,21 @@
 // Numbers, read and written, and the refusals.
-// What is written goes into an array that is lent, as in a device, and the byte behind is looked at.
-use numbers::{Refusal, read_number, write_number};
+// What is written goes into arrays that are lent, since the library has no heap, and the byte behind is looked at.
+use numbers::{Decoded, NumberFault, Refusal, read_number, write_number};
 use std::process::Abort;
 use std::test::Fail;
 
 // The bytes are the number, all of them.
 fn reads(rt: &impl Abort, bytes: &[u8], value: u32) -> Result<(), Fail> {
-    let number = read_number(bytes, 0)?;
-    assert_eq!(rt; number.value, value);
-    assert_eq!(rt; number.next, bytes.len());
+    let next = bytes.len();
+    assert_eq!(rt; read_number(bytes, 0)?, Decoded { value, next });
     Ok(())
 }
 
-fn refuses(rt: &impl Abort, bytes: &[u8], at: usize, refusal: Refusal) -> Result<(), Fail> {
-    let fault = read_number(bytes, at).err().ok_or("it was read")?;
-    assert_eq!(rt; fault.refusal, refusal);
-    assert_eq!(rt; fault.place, at);
-    Ok(())
+fn refuses(rt: &impl Abort, bytes: &[u8], at: usize, refusal: Refusal) {
+    assert_eq!(rt;
+        read_number(bytes, at),
+        Err(NumberFault { refusal, place: at })
+    );
 }
 
 // The number is written as the bytes, and the byte behind them stays.
@@ -48,30 +47,29 @@ fn numbers_read_and_write(rt: HostRuntime) -> Result<(), Fail> {
 }
 
 #[test]
-fn numbers_refused(rt: HostRuntime) -> Result<(), Fail> {
-    refuses(&rt, b"", 0, Refusal::Short)?;
-    refuses(&rt, b"\x81", 0, Refusal::Short)?;
-    refuses(&rt, b"\x05", 1, Refusal::Short)?;
-    refuses(&rt, b"\x05", 7, Refusal::Short)?;
+fn numbers_refused(rt: HostRuntime) {
+    refuses(&rt, b"", 0, Refusal::Short);
+    refuses(&rt, b"\x81", 0, Refusal::Short);
+    refuses(&rt, b"\x05", 1, Refusal::Short);
+    refuses(&rt, b"\x05", 7, Refusal::Short);
     // Four groups go on, and no more bytes.
-    refuses(&rt, b"\x81\x81\x81\x81", 0, Refusal::Short)?;
+    refuses(&rt, b"\x81\x81\x81\x81", 0, Refusal::Short);
     // The fifth goes on: too wide, before the end is seen.
-    refuses(&rt, b"\x81\x81\x81\x81\x81", 0, Refusal::Wide)?;
-    refuses(&rt, b"\x90\x80\x80\x80\x00", 0, Refusal::Wide)?;
-    refuses(&rt, b"\x80\x05", 0, Refusal::Padded)?;
+    refuses(&rt, b"\x81\x81\x81\x81\x81", 0, Refusal::Wide);
+    refuses(&rt, b"\x90\x80\x80\x80\x00", 0, Refusal::Wide);
+    refuses(&rt, b"\x80\x05", 0, Refusal::Padded);
     // Padded before short.
-    refuses(&rt, b"\x80", 0, Refusal::Padded)?;
+    refuses(&rt, b"\x80", 0, Refusal::Padded);
     // Padded before wide.
-    refuses(&rt, b"\x80\x80\x80\x80\x80\x80", 0, Refusal::Padded)?;
-    refuses(&rt, b"\x05\x80\x05", 1, Refusal::Padded)
+    refuses(&rt, b"\x80\x80\x80\x80\x80\x80", 0, Refusal::Padded);
+    refuses(&rt, b"\x05\x80\x05", 1, Refusal::Padded);
 }
 
 #[test]
-fn too_little_room_touches_nothing(rt: HostRuntime) -> Result<(), Fail> {
+fn too_little_room_touches_nothing(rt: HostRuntime) {
     let mut out = [0xaa; 1];
-    let refusal = write_number(128, &mut out).err().ok_or("it was written")?;
-    assert!(rt; refusal == Refusal::Narrow && out[0] == 0xaa);
-    Ok(())
+    assert_eq!(rt; write_number(128, &mut out), Err(Refusal::Narrow));
+    assert_eq!(rt; out[0], 0xaa);
 }
 
 #[test]

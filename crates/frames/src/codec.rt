@@ -41,8 +41,8 @@ fn read_field(bytes: &[u8], at: usize, field: Field) -> Result<Decoded, FieldFau
     read_number(bytes, at).map_err(|fault| FieldFault { field, fault })
 }
 
-// The three numbers in front of the image, and the place behind them. Nothing compares or prints it.
-#[derive(Clone, Copy)]
+// The three numbers in front of the image, and the place behind them.
+#[derive(Clone, Copy, Debug, PartialEq, Eq)]
 struct Head {
     round: RoundNumber,
     sender: BoxNumber,
@@ -65,7 +65,7 @@ fn read_head(bytes: &[u8]) -> Result<Head, FrameFault>
     })
 }
 
-// The proposal whose image begins at a place, and the place behind it, which is kept beside as `write_numbers` keeps its own.
+// The proposal whose image begins at a place, and the place behind it; the two go beside each other as in `read_field`.
 #[tactic(auto, using(crate::proofs::Whole::reading))]
 fn read_proposal<K: Kind>(bytes: &[u8], at: usize) -> Result<(K, usize), FrameFault>
     ensures { result ≡ read_proposal K.SIZE K.named bytes.now at }
@@ -85,15 +85,20 @@ fn read_proposal<K: Kind>(bytes: &[u8], at: usize) -> Result<(K, usize), FrameFa
 pub fn read_frame<K: Kind>(bytes: &[u8]) -> Result<Frame<K>, FrameFault>
     ensures { result ≡ read_frame K.SIZE K.named bytes.now }
 {
-    let head = read_head(bytes)?;
-    let (estimate, end) = read_proposal::<K>(bytes, head.next)?;
+    let Head {
+        round,
+        sender,
+        missing,
+        next,
+    } = read_head(bytes)?;
+    let (estimate, end) = read_proposal::<K>(bytes, next)?;
     if end < bytes.len() {
         return Err(FrameFault::Surplus { place: end });
     }
     Ok(Frame {
-        round: head.round,
-        sender: head.sender,
-        missing: head.missing,
+        round,
+        sender,
+        missing,
         estimate,
     })
 }

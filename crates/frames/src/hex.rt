@@ -4,8 +4,8 @@ ghost use Rattle.frames.specs.Texts.{hex_text};
 
 use std::fmt;
 
-// Each byte is written as a space and two hexadecimal digits. Nothing compares it.
-#[derive(Clone, Copy)]
+// Each byte is written as a space and two hexadecimal digits.
+#[derive(Clone, Copy, Debug, PartialEq, Eq)]
 pub struct HexBytes<'a>(pub &'a [u8]);
 
 impl fmt::Display for HexBytes<'_> {

@@ -5,6 +5,7 @@ ghost use Rattle.frames.specs.Examples.{Examples};
 
 use kinds::Kind;
 
+// The members of a kind go one by one into the definitions, which take values and no bound.
 // A frame that is written reads back as itself, and no other bytes read as that frame; how other bytes are refused; and how
 // long a frame can be.
 pub fn frames_stand<K: Kind>() -> u8

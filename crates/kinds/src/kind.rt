@@ -1,5 +1,5 @@
 // What a proposal is: it has an image in numbers, by which it is sent, and an order. The order is the kind's own and not `Ord`, since of
-// two of the three kinds a derived one would be turned round.
+// two of the three kinds it is not the order that a derive gives.
 ghost use Rattle.std.specs.Prelude.{◌≡◌, ℕ, ◌<◌, ◌≤◌, Bool, true, ◌⊎◌, List, length, Some, Option, slice_index};
 ghost use Rattle.std.specs.Option.{ok_or};
 ghost use Rattle.std.specs.List.{AllByRecursion};
@@ -40,7 +40,7 @@ pub trait Kind: Copy {
         self.may_go_first(other) && !other.may_go_first(self)
     }
 
-    // The size, as a call.
+    // The size, as a call, for callers that had it before there was a constant.
     final fn image_len() -> usize
         ensures { result ≡ SIZE }
     {

@@ -38,7 +38,8 @@ pub fn number_len(n: u32) -> usize
     n.max(1).ilog(128) as usize + 1
 }
 
-// Writes the number to the front of `out` and tells its length; where there is too little room, nothing is touched. A mask and `as` take
+// Writes the number to the front of `out` and tells its length; where there is too little room, nothing is touched. Answer and bytes are
+// two facts, and each has a clause and a definition, here and in all that writes. A mask and `as` take
 // the low group, since nothing is to fail there. The places are a range: of what `iter_mut` lent, a proof would know the length alone.
 #[tactic(auto, using(crate::proofs::Groups::writes))]
 pub fn write_number(n: u32, out: &mut [u8]) -> Result<usize, Refusal>
@@ -89,7 +90,8 @@ fn refuse(refusal: Refusal, place: usize) -> Result<Decoded, NumberFault>
     Err(NumberFault { refusal, place })
 }
 
-// The number that the groups from a place on make. Bytes and place stay two parameters here and in frames, which tells why.
+// The number that the groups from a place on make. The loop breaks with the number read, which is a rule of the project. Bytes and place
+// stay two parameters, here and below: a cursor that moves on would need a second clause, on what it leaves as it was.
 fn read_groups(bytes: &[u8], at: usize) -> Result<Decoded, NumberFault>
     ensures { result ≡ read_groups at (drop at bytes.now) }
 {

@@ -19,6 +19,7 @@ impl fmt::Display for BoxNumber {
     }
 }
 
+// By a pattern, since its must-fail edit needs a text that stands once.
 impl fmt::Display for RoundNumber {
     ghost output = { λ r. Some (decimal r.0) };
 
