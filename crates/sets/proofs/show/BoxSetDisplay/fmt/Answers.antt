@@ -1,5 +1,5 @@
-use Rattle.std.proofs.Common.{◌≡◌, [], codes, sym, refl, ap, arith}
-use Rattle.std.proofs.Output.{writes_in_calls_nil, has_written_append, has_written_of_eq}
+use Rattle.std.proofs.Common.{[], codes, sym, refl, ap}
+use Rattle.std.proofs.Output.{writes_in_calls_nil}
 use Rattle.sets.specs.Tests.{any}
 use Rattle.sets.specs.Masks.{member}
 use Rattle.sets.specs.Texts.{listed}
@@ -28,12 +28,3 @@ loop-i-preserved g c =
           rw (ap (λ z. z.now) w.separator-is)
           (c.loop-i.invariant.0, listed_skip took P c.write.new.self i c.loop-i.separator.now c.loop-i.f c.loop-i.invariant.1 c.if-contains.f (sym w.if-contains.ensures) w.f-is)
     ]
-
-pub returns-clause-writes : goal.returns-clause-writes
-returns-clause-writes g c p ok =
-    let took = g.W.Write.write_str_gives in
-    let P = member c.args.self.now in
-    let all : c.loop-i.i-counter ≡ 32 = omega arith in
-    let brace = c.in_ok-write.ensures.writes p refl in
-    let boxes = has_written_of_eq took _ _ (listed P 32) _ (ap (listed P) all) (c.loop-i.invariant.1.1 brace.plain) in
-    has_written_append took _ (codes "{") _ _ _ brace (has_written_append took _ (listed P 32) _ (codes "}") _ boxes (c.write-2.ensures.writes boxes.plain ok))
