@@ -2,7 +2,7 @@
 // What is written goes into arrays that are lent, since the library has no heap, and the byte behind is looked at.
 use boxes::{BoxFault, Closed, Listening, Resting};
 use frames::Field;
-use kinds::Piece;
+use kinds::{Call, Piece};
 use numbers::Refusal;
 use sets::{BoxNumber, BoxSet, RoundNumber};
 use std::process::Abort;
@@ -26,7 +26,7 @@ fn opened(b: Resting<Piece>, frames: &[[u8; 4]]) -> Result<Listening<Piece>, Box
     Ok(ear)
 }
 
-// The box refuses the bytes: at a field and a place where they hold no frame, or of its own accord.
+// The box refuses the bytes, at a field and a place where they hold no frame or of its own accord, and stays as it was.
 fn refuses(
     rt: &impl Abort,
     ear: &mut Listening<Piece>,
@@ -35,7 +35,9 @@ fn refuses(
     refusal: Refusal,
     at: Option<(Field, usize)>,
 ) -> Result<(), Fail> {
+    let before = *ear;
     let fault = ear.hear(bytes).err().ok_or("it was heard")?;
+    assert_eq!(rt; *ear, before);
     assert_eq!(rt; fault.refusal(), refusal);
     assert_eq!(rt; fault.round(), RoundNumber(round));
     assert_eq!(rt; fault.field(), at.map(|(field, _)| field));
@@ -73,6 +75,7 @@ fn still_listens(
     assert_eq!(rt; left, ear);
     assert_eq!(rt; fault.refusal(), Refusal::Tally);
     assert_eq!(rt; fault.round(), RoundNumber(round));
+    assert!(rt; fault.field().is_none() && fault.place().is_none());
     Ok(left)
 }
 
@@ -115,104 +118,53 @@ fn composed_frames(rt: HostRuntime) -> Result<(), Fail> {
 #[test]
 fn frames_at_fault(rt: HostRuntime) -> Result<(), Fail> {
     let mut ear = made(0, 4, 2, 30)?.open();
-    refuses(
-        &rt,
-        &mut ear,
-        b"\x01\x01",
-        1,
-        Refusal::Short,
-        Some((Field::Set, 2)),
-    )?;
-    refuses(
-        &rt,
-        &mut ear,
-        b"\x01\x90\x80\x80\x80\x00\x00\x14",
-        1,
-        Refusal::Wide,
-        Some((Field::Sender, 1)),
-    )?;
-    refuses(
-        &rt,
-        &mut ear,
-        b"\x80\x01\x01\x00\x14",
-        1,
-        Refusal::Padded,
-        Some((Field::Round, 0)),
-    )?;
-    refuses(
-        &rt,
-        &mut ear,
-        b"\x01\x01\x00\x14\x00",
-        1,
-        Refusal::Surplus,
-        Some((Field::End, 4)),
-    )?;
-    refuses(
-        &rt,
-        &mut ear,
-        b"\x01\x01\x00\x81\x80\x00",
-        1,
-        Refusal::Image,
-        Some((Field::Image, 3)),
-    )
+    let cases: [(&[u8], Refusal, Field, usize); 5] = [
+        (b"\x01\x01", Refusal::Short, Field::Set, 2),
+        (
+            b"\x01\x90\x80\x80\x80\x00\x00\x14",
+            Refusal::Wide,
+            Field::Sender,
+            1,
+        ),
+        (b"\x80\x01\x01\x00\x14", Refusal::Padded, Field::Round, 0),
+        (b"\x01\x01\x00\x14\x00", Refusal::Surplus, Field::End, 4),
+        (b"\x01\x01\x00\x81\x80\x00", Refusal::Image, Field::Image, 3),
+    ];
+    for (bytes, refusal, field, place) in cases {
+        refuses(&rt, &mut ear, bytes, 1, refusal, Some((field, place)))?;
+    }
+    Ok(())
 }
 
 #[test]
 fn frames_refused_by_the_box(rt: HostRuntime) -> Result<(), Fail> {
     let mut ear = made(0, 4, 2, 30)?.open();
     assert_eq!(rt; ear.number(), BoxNumber(0));
-    refuses(
-        &rt,
-        &mut ear,
-        b"\x02\x01\x00\x14",
-        1,
-        Refusal::OffBeat,
-        None,
-    )?;
-    refuses(
-        &rt,
-        &mut ear,
-        b"\x01\x04\x00\x14",
-        1,
-        Refusal::Stranger,
-        None,
-    )?;
-    // Its own frame.
-    refuses(&rt, &mut ear, b"\x01\x00\x00\x1e", 1, Refusal::Heard, None)?;
     ear.hear(b"\x01\x01\x00\x14")?;
-    // A frame heard twice.
-    refuses(&rt, &mut ear, b"\x01\x01\x00\x14", 1, Refusal::Heard, None)?;
-    // A bit from n on.
-    refuses(&rt, &mut ear, b"\x01\x02\x10\x0a", 1, Refusal::Set, None)?;
-    // The sender's bit.
-    refuses(&rt, &mut ear, b"\x01\x02\x04\x0a", 1, Refusal::Set, None)?;
-    // The hearer's bit.
-    refuses(&rt, &mut ear, b"\x01\x02\x01\x0a", 1, Refusal::Set, None)?;
-    // The round first.
-    refuses(
-        &rt,
-        &mut ear,
-        b"\x02\x04\x10\x0a",
-        1,
-        Refusal::OffBeat,
-        None,
-    )?;
-    // Then the sender.
-    refuses(
-        &rt,
-        &mut ear,
-        b"\x01\x04\x11\x0a",
-        1,
-        Refusal::Stranger,
-        None,
-    )?;
-    // Then who was heard, before the set.
-    refuses(&rt, &mut ear, b"\x01\x01\x10\x0a", 1, Refusal::Heard, None)?;
+    let cases = [
+        (*b"\x02\x02\x00\x14", Refusal::OffBeat),
+        (*b"\x01\x04\x00\x14", Refusal::Stranger),
+        // Its own frame.
+        (*b"\x01\x00\x00\x1e", Refusal::Heard),
+        // A frame heard twice.
+        (*b"\x01\x01\x00\x14", Refusal::Heard),
+        // A bit from n on, the sender's and the hearer's.
+        (*b"\x01\x02\x10\x0a", Refusal::Set),
+        (*b"\x01\x02\x04\x0a", Refusal::Set),
+        (*b"\x01\x02\x01\x0a", Refusal::Set),
+        // Of several faults the round's comes first, then the sender's, then who was heard, before the set.
+        (*b"\x02\x04\x10\x0a", Refusal::OffBeat),
+        (*b"\x01\x04\x11\x0a", Refusal::Stranger),
+        (*b"\x01\x01\x10\x0a", Refusal::Heard),
+    ];
+    for (frame, refusal) in cases {
+        refuses(&rt, &mut ear, &frame, 1, refusal, None)?;
+    }
     let b = rests(ear)?;
     holds(&rt, b, 1, 20, 0x0c, 3);
     let mut ear = b.open();
+    // Who is missing, and before the set.
     refuses(&rt, &mut ear, b"\x02\x02\x00\x0a", 2, Refusal::Down, None)?;
-    // Who is missing, before the set.
     refuses(&rt, &mut ear, b"\x02\x03\x01\x0a", 2, Refusal::Down, None)
 }
 
@@ -280,6 +232,25 @@ fn the_best_horizon_stays(rt: HostRuntime) -> Result<(), Fail> {
         3,
         20,
     )
+}
+
+// Calls have two numbers, and the higher rank goes first.
+#[test]
+fn boxes_of_calls(rt: HostRuntime) -> Result<(), Fail> {
+    let first = Call::new(4, Piece::new(200)?)?;
+    let low = Resting::new(BoxNumber(0), 2, 1, Call::new(3, Piece::new(5)?)?)?;
+    let high = Resting::new(BoxNumber(1), 2, 1, first)?;
+    let mut line = [0xaa; 7];
+    let len = high.compose(&mut line)?;
+    assert!(rt; len == 6 && line == *b"\x01\x01\x00\x04\x81\x48\xaa");
+    let mut ear = low.open();
+    ear.hear(&line[..len])?;
+    let Closed::Rests(b) = ear.close().map_err(|(_, fault)| fault)? else {
+        return Err(Fail::new("it rings"));
+    };
+    assert_eq!(rt; b.estimate(), first);
+    assert_eq!(rt; (b.closed(), b.missing()), (1, BoxSet::empty()));
+    Ok(())
 }
 
 #[test]

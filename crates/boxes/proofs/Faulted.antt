@@ -1,15 +1,15 @@
 -- Calls that are refused for the first of some faults. Assumes nothing.
 use Rattle.std.proofs.Common.{◌≡◌, ℕ, Bool, true, false, ◌||◌, List, [], ◌∷◌, Ok, Err, Option, Result, sym, refl, ap, arith}
-use Rattle.std.specs.Result.{result_map_both}
 use Rattle.numbers.specs.declared.refusal.Refusal.{Refusal}
 use Rattle.numbers.specs.Refusals.{unless}
 use Rattle.frames.specs.declared.frame.Frame.{Frame}
+use Rattle.frames.specs.Faults.{map_fault}
 use Rattle.frames.specs.Frames.{read_frame}
 use Rattle.boxes.specs.declared.fault.OwnFault.{OwnFault}
 use Rattle.boxes.specs.declared.fault.BoxFault.TheVariants.{Own}
 use Rattle.boxes.specs.declared.states.Held.{Held}
 use Rattle.boxes.specs.declared.states.Notes.{Notes}
-use Rattle.boxes.specs.Rounds.{in_round, refused_in, judged, hearing}
+use Rattle.boxes.specs.Rounds.{round_fault, own_fault, checked, hearing}
 
 -- whether there is a fault
 abbrev pub any_fault : List (Bool × Refusal) → Bool
@@ -26,20 +26,22 @@ unless_none [] x h = refl
 unless_none ((true, e) ∷ faults) x h = absurd (grind arith)
 unless_none ((false, e) ∷ faults) x h = unless_none faults x h
 
-ok_from_mapped : {X D E : Type 0} (up : D → E) (r : Result X D) (x : X) → Ok x ≡ result_map_both (λ z. z) up r → r ≡ Ok x
+-- what is passed up is the same fault as another
+ok_from_mapped : {X D E : Type 0} (up : D → E) (r : Result X D) (x : X) → Ok x ≡ map_fault up r → r ≡ Ok x
 ok_from_mapped up (Ok y) x e = let same : x ≡ y = cc in ap Ok (sym same)
 ok_from_mapped up (Err d) x e = absurd cc
 
-err_from_mapped : {X D E : Type 0} (up : D → E) (r : Result X D) (f : E) → Err f ≡ result_map_both (λ z. z) up r → (d : D) × (r ≡ Err d) × (f ≡ up d)
+err_from_mapped : {X D E : Type 0} (up : D → E) (r : Result X D) (f : E) → Err f ≡ map_fault up r → (d : D) × (r ≡ Err d) × (f ≡ up d)
 err_from_mapped up (Ok y) f e = absurd cc
 err_from_mapped up (Err d) f e = (d, refl, cc)
 
 -- a hearing that a fault of the box itself ends
 pub refused_by_box : {K : Type 0} (leads : K → K → Bool) (size : ℕ) (named : List ℕ → Option K) (b : Held K) (m : Notes K) (bytes : List ℕ) (f : Frame K) (e : OwnFault)
-    → Ok f ≡ result_map_both (λ z. z) (in_round b) (read_frame size named bytes)
-    → Err e ≡ result_map_both (λ z. z) (refused_in b) (judged b m f)
+    → Ok f ≡ map_fault (round_fault b) (read_frame size named bytes)
+    → Err e ≡ map_fault (own_fault b) (checked b m f)
     → hearing leads size named b m bytes ≡ Err (Own e)
-refused_by_box leads size named b m bytes f e read judge =
-    let r = ok_from_mapped (in_round b) (read_frame size named bytes) f read in
-    let j = err_from_mapped (refused_in b) (judged b m f) e judge in
+unfolding hearing
+refused_by_box leads size named b m bytes f e read check =
+    let r = ok_from_mapped (round_fault b) (read_frame size named bytes) f read in
+    let j = err_from_mapped (own_fault b) (checked b m f) e check in
     rw (r, j.1) (ap (λ x. Err (Own x)) (sym j.2))

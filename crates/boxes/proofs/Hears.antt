@@ -1,7 +1,8 @@
 -- A round in which bytes are told one after another, accepted or refused. Assumes nothing.
 use Rattle.std.proofs.Common.{◌≡◌, ℕ, ◌<◌, Bool, true, false, cond, not, ◌&&◌, eqb, ◌⊎◌, List, [], ◌∷◌, is_some, Some, None, Ok, Err, Option, Result, sym, refl, ap, ◌∙◌, subst, subst₂, arith}
+use Rattle.std.specs.List.{find, cons_option}
 use Rattle.std.specs.Option.{option_or}
-use Rattle.std.specs.Result.{result_unwrap_or}
+use Rattle.std.specs.Result.{result_ok, result_unwrap_or}
 use Rattle.std.proofs.lemmas.Bool.{eqb-true, eq-eqb}
 use Rattle.std.proofs.lemmas.Bool.Decides.{nat_tests}
 use Rattle.sets.specs.Masks.{member}
@@ -13,40 +14,44 @@ use Rattle.boxes.specs.declared.states.Held.{Held}
 use Rattle.boxes.specs.declared.states.Notes.{Notes}
 use Rattle.boxes.specs.declared.states.Resting.{Resting}
 use Rattle.boxes.specs.Boxes.{frame_of}
-use Rattle.boxes.specs.Rounds.{open_notes, frame_fault, own_fault, faults, judged, noted}
-use Rattle.boxes.specs.Rule.{Heard, admits, voice_in, first_voice, heard_of, notes_after}
+use Rattle.boxes.specs.Rounds.{open_notes, frame_refused, refused, faults, checked, noted, hearing}
+use Rattle.boxes.specs.Rule.{Heard, admits, from_sender, heard_of, frames_in, notes_after}
 use Rattle.boxes.proofs.Members.{member_is}
 use Rattle.boxes.proofs.Faulted.{any_fault, unless_some, unless_none}
 use Rattle.boxes.proofs.Shown.{Shows, plus, alone, opens, goes_on, or_some}
 
 -- what becomes of the notes by what was read
 abbrev by_read : {K : Type 0} → (K → K → Bool) → Held K → Notes K → Result (Frame K) FrameFault → Notes K
-by_read leads b m r = result_unwrap_or (and_then (frame_fault b) r (λ f. and_then (own_fault b) (judged b m f) (λ f. Ok (noted leads m f)))) m
+by_read leads b m r = result_unwrap_or (and_then (frame_refused b) r (λ f. and_then (refused b) (checked b m f) (λ _. Ok (noted leads m f)))) m
 
 -- a frame is refused just if the box may not hear it or has heard its sender
 fault_is : {K : Type 0} (b : Held K) (m : Notes K) (f : Frame K) → member m.heard b.number.0 ≡ true
     → any_fault (faults b m f) ≡ not (admits b f && not (member m.heard f.sender.0))
+unfolding admits
 fault_is b m f itself =
     let own : eqb f.sender.0 b.number.0 ≡ true → member m.heard f.sender.0 ≡ true = λ t. ap (member m.heard) (eqb-true _ _ t) ∙ itself in
     grind (arith, nat_tests)
 
 module _ {K : Type 0} (leads : K → K → Bool) (b : Held K) (m : Notes K) (f : Frame K) where
   stays : any_fault (faults b m f) ≡ true → by_read leads b m (Ok f) ≡ m
-  stays e = let u = unless_some (faults b m f) f e in ap (λ r. result_unwrap_or (and_then (own_fault b) r (λ f. Ok (noted leads m f))) m) u.1
+  unfolding checked
+  stays e = let u = unless_some (faults b m f) tt e in ap (λ r. result_unwrap_or (and_then (refused b) r (λ _. Ok (noted leads m f))) m) u.1
 
   notes : any_fault (faults b m f) ≡ false → by_read leads b m (Ok f) ≡ noted leads m f
-  notes e = ap (λ r. result_unwrap_or (and_then (own_fault b) r (λ f. Ok (noted leads m f))) m) (unless_none (faults b m f) f e)
+  unfolding checked
+  notes e = ap (λ r. result_unwrap_or (and_then (refused b) r (λ _. Ok (noted leads m f))) m) (unless_none (faults b m f) tt e)
 
 admits_placed : {K : Type 0} (b : Held K) (f : Frame K) → admits b f ≡ true → f.sender.0 < b.n
+unfolding admits
 admits_placed b f e = grind (arith, nat_tests)
 
 -- a frame that is refused, though the box may hear it, is of a box that was heard
 never : (fault a m i t : Bool) → fault ≡ true → fault ≡ not (a && not m) → (t ≡ true → i ≡ false) → (a ≡ true → m ≡ i) → (t && a) ≡ false
 never fault a m i t e is same heard = grind arith
 
--- the frames heard before, and of each other box the first that is told then
-abbrev after : {K : Type 0} → Heard K → (ℕ → Option (Frame K)) → Heard K
-after h told q = option_or (h q) (told q)
+-- the frames heard before, and of each other box the first that came then
+abbrev after : {K : Type 0} → Held K → Heard K → List (Frame K) → Heard K
+after b h came q = option_or (h q) (find (from_sender b q) came)
 
 or_assoc : {X : Type 0} (o p r : Option X) → option_or (option_or o p) r ≡ option_or o (option_or p r)
 or_assoc None p r = refl
@@ -75,15 +80,15 @@ module _ {K : Type 0} (leads : K → K → Bool) (total : (x y : K) → (leads x
     faulty f = fault_is b.held m f (heard_is b.held.number.0 (omega (arith, b.placed, b.few)) ∙ ap is_some own)
 
     -- what is refused adds nothing to what was heard
-    refused_adds : (f : Frame K) → any_fault (faults b.held m f) ≡ true → (q : ℕ) (p : Option (Frame K)) → option_or (h q) (option_or (voice_in b.held q (Ok f)) p) ≡ option_or (h q) p
-    refused_adds f e q p = by (is_some (h q)) refl
+    refused_adds : (f : Frame K) → any_fault (faults b.held m f) ≡ true → (q : ℕ) (more : List (Frame K)) → after b.held h (f ∷ more) q ≡ after b.held h more q
+    refused_adds f e q more = by (is_some (h q)) refl
       where
-        by : (t : Bool) → is_some (h q) ≡ t → option_or (h q) (option_or (voice_in b.held q (Ok f)) p) ≡ option_or (h q) p
-        by true t = or_some (h q) _ t ∙ sym (or_some (h q) p t)
+        by : (t : Bool) → is_some (h q) ≡ t → after b.held h (f ∷ more) q ≡ after b.held h more q
+        by true t = or_some (h q) _ t ∙ sym (or_some (h q) _ t)
         by false t =
             let same : eqb q f.sender.0 ≡ true → is_some (h f.sender.0) ≡ false = λ u. sym (ap (λ k. is_some (h k)) (eqb-true q f.sender.0 u)) ∙ t in
             let off = never (any_fault (faults b.held m f)) (admits b.held f) (member m.heard f.sender.0) (is_some (h f.sender.0)) (eqb q f.sender.0) e (faulty f) same (λ a. heard_is f.sender.0 (omega (arith, admits_placed b.held f a, b.few))) in
-            ap (λ z. option_or (h q) (option_or (cond z (Some f) None) p)) off
+            ap (λ z. option_or (h q) (cond z (Some f) (find (from_sender b.held q) more))) off
 
     -- what is accepted adds its sender's frame
     accepted_new : (f : Frame K) → any_fault (faults b.held m f) ≡ false → (f.sender.0 < b.held.n) × (is_some (h f.sender.0) ≡ false) × (admits b.held f ≡ true)
@@ -93,35 +98,39 @@ module _ {K : Type 0} (leads : K → K → Bool) (total : (x y : K) → (leads x
         let l = admits_placed b.held f a in
         (l, sym (heard_is f.sender.0 (omega (arith, l, b.few))) ∙ grind arith, a)
 
-    accepted_adds : (f : Frame K) → admits b.held f ≡ true → (q : ℕ) (p : Option (Frame K)) → option_or (plus h f q) p ≡ option_or (h q) (option_or (voice_in b.held q (Ok f)) p)
-    accepted_adds f e q p = or_assoc (h q) (cond (eqb q f.sender.0) (Some f) None) p ∙ ap (λ t. option_or (h q) (option_or (cond t (Some f) None) p)) (grind arith)
+    accepted_adds : (f : Frame K) → admits b.held f ≡ true → (q : ℕ) (more : List (Frame K)) → after b.held (plus h f) more q ≡ after b.held h (f ∷ more) q
+    accepted_adds f e q more =
+        let rest = find (from_sender b.held q) more in
+        let t : eqb q f.sender.0 ≡ from_sender b.held q f = grind arith in
+        or_assoc (h q) (cond (eqb q f.sender.0) (Some f) None) rest ∙ ap (option_or (h q)) (or_alone (eqb q f.sender.0) f rest ∙ ap (λ z. cond z (Some f) rest) t)
 
   -- from any frames heard, told what is read next and then the rest
-  step : (r : Result (Frame K) FrameFault) (rest : Heard K) (end : Notes K → Notes K) (m : Notes K) (h : Heard K) → Going m h
-      → ((n : Notes K) (g : Heard K) → Going n g → Shows leads b (end n) (after g rest))
-      → Shows leads b (end (by_read leads b.held m r)) (after h (λ q. option_or (voice_in b.held q r) (rest q)))
+  step : (r : Result (Frame K) FrameFault) (rest : List (Frame K)) (end : Notes K → Notes K) (m : Notes K) (h : Heard K) → Going m h
+      → ((n : Notes K) (g : Heard K) → Going n g → Shows leads b (end n) (after b.held g rest))
+      → Shows leads b (end (by_read leads b.held m r)) (after b.held h (cons_option (result_ok r) rest))
   step (Err e) rest end m h going on = on m h going
   step (Ok f) rest end m h (shows, own) on = by (any_fault (faults b.held m f)) refl
     where
-      by : (t : Bool) → any_fault (faults b.held m f) ≡ t → Shows leads b (end (by_read leads b.held m (Ok f))) (after h (λ q. option_or (voice_in b.held q (Ok f)) (rest q)))
+      by : (t : Bool) → any_fault (faults b.held m f) ≡ t → Shows leads b (end (by_read leads b.held m (Ok f))) (after b.held h (f ∷ rest))
       by true t =
-          subst₂ (Shows leads b) (ap end (sym (stays leads b.held m f t))) (λ j q. sym (refused_adds m h shows own f t q (rest q)) j) (on m h (shows, own))
+          subst₂ (Shows leads b) (ap end (sym (stays leads b.held m f t))) (λ j q. sym (refused_adds m h shows own f t q rest) j) (on m h (shows, own))
       by false t =
           let new = accepted_new m h shows own f t in
           let own' = or_some (h b.held.number.0) (cond (eqb b.held.number.0 f.sender.0) (Some f) None) (ap is_some own) ∙ own in
           let so = on (noted leads m f) (plus h f) (goes_on leads total transitive antisymmetric b m h shows f new.0 new.1, own') in
-          subst₂ (Shows leads b) (ap end (sym (notes leads b.held m f t))) (λ j q. accepted_adds m h shows own f new.2 q (rest q) j) so
+          subst₂ (Shows leads b) (ap end (sym (notes leads b.held m f t))) (λ j q. accepted_adds m h shows own f new.2 q rest j) so
 
   module _ (size : ℕ) (named : List ℕ → Option K) where
-    told_on : (told : List (List ℕ)) (m : Notes K) (h : Heard K) → Going m h → Shows leads b (notes_after size named b.held leads m told) (after h (λ q. first_voice size named b.held q told))
-    unfolding notes_after first_voice
+    told_on : (told : List (List ℕ)) (m : Notes K) (h : Heard K) → Going m h → Shows leads b (notes_after size named leads b.held m told) (after b.held h (frames_in size named told))
+    unfolding notes_after frames_in hearing
     told_on [] m h (shows, own) = subst (Shows leads b m) (λ j q. sym (or_end (h q)) j) shows
-    told_on (x ∷ more) m h going = step (read_frame size named x) (λ q. first_voice size named b.held q more) (λ n. notes_after size named b.held leads n more) m h going (told_on more)
+    told_on (x ∷ more) m h going = step (read_frame size named x) (frames_in size named more) (λ n. notes_after size named leads b.held n more) m h going (told_on more)
 
     -- whatever was told, the notes show the frames heard
-    pub told_shows : (told : List (List ℕ)) → Shows leads b (notes_after size named b.held leads (open_notes b.held) told) (heard_of size named b.held told)
+    pub told_shows : (told : List (List ℕ)) → Shows leads b (notes_after size named leads b.held (open_notes b.held) told) (heard_of b.held (frames_in size named told))
+    unfolding heard_of
     told_shows told =
         let p = b.held.number.0 in
         let f = frame_of b.held in
-        subst (Shows leads b (notes_after size named b.held leads (open_notes b.held) told)) (λ j q. or_alone (eqb q p) f (first_voice size named b.held q told) j)
+        subst (Shows leads b (notes_after size named leads b.held (open_notes b.held) told)) (λ j q. or_alone (eqb q p) f (find (from_sender b.held q) (frames_in size named told)) j)
         (told_on told (open_notes b.held) (alone f) (opens leads total transitive antisymmetric b, ap (λ t. cond t (Some f) None) (eq-eqb p p refl)))

@@ -1,11 +1,13 @@
 -- What holds of every box, by the laws of the kind and of frames. Assumes nothing.
-use Rattle.std.proofs.Common.{◌≡◌, ℕ, ◌+◌, ◌^◌, ◌<◌, ◌≤◌, Bool, true, false, cond, not, ◌&&◌, eqb, leb, ◌⊎◌, List, [], ◌∷◌, Some, Ok, Err, Option, Result, refl, ap, ◌∙◌, subst, arith}
+use Rattle.std.proofs.Common.{◌≡◌, ℕ, ◌+◌, ◌^◌, ◌<◌, ◌≤◌, Bool, true, false, cond, not, ◌&&◌, eqb, leb, ◌⊎◌, List, [], ◌∷◌, map, Some, Ok, Err, Option, Result, refl, ap, ◌∙◌, subst, arith}
 use mathlib.Core.HLevel.{is_prop→PathP}
 use mathlib.Core.Bool.{Bool-set}
 use native.Mathlib.Bridge.{le_prop}
-use Rattle.std.specs.Result.{result_map_both}
+use Rattle.std.specs.List.{cons_option}
+use Rattle.std.specs.Result.{result_map_both, result_ok, result_unwrap_or}
 use Rattle.std.proofs.lemmas.Bool.{eq-eqb, lt-leb}
 use Rattle.std.proofs.lemmas.Bool.Decides.{nat_tests}
+use Rattle.std.proofs.lemmas.List.Elements.{All-head, All-tail}
 use Rattle.numbers.specs.declared.refusal.Refusal.TheVariants as refusal
 use Rattle.numbers.specs.Refusals.{unless}
 use Rattle.sets.specs.Tests.{count}
@@ -13,18 +15,19 @@ use Rattle.sets.specs.Masks.{member}
 use Rattle.sets.proofs.Bits.{bit_high}
 use Rattle.sets.proofs.Counts.{none_any}
 use Rattle.frames.specs.Faults.{and_then}
-use Rattle.frames.specs.Theorems.{FrameBack}
+use Rattle.frames.specs.Frames.{frame_bytes}
+use Rattle.frames.specs.Theorems.{Fits, FrameBack}
 use Rattle.boxes.specs.declared.states.Held.{Held}
 use Rattle.boxes.specs.declared.states.Notes.{Notes}
 use Rattle.boxes.specs.declared.states.Resting.{Resting}
 use Rattle.boxes.specs.Boxes.{frame_of}
-use Rattle.boxes.specs.Rounds.{open_notes, frame_fault, own_fault, bad_set, judged, noted}
-use Rattle.boxes.specs.Rule.{heard_of, notes_after}
-use Rattle.boxes.specs.Theorems.{BoxDetermined, ClosesByRule, OrderFree, ComposedHeard}
+use Rattle.boxes.specs.Rounds.{open_notes, frame_refused, refused, bad_set, checked, noted, hearing}
+use Rattle.boxes.specs.Rule.{from_sender, heard_of, frames_in, notes_after}
+use Rattle.boxes.specs.Theorems.{BoxDetermined, ListeningDetermined, NotesShow, ClosesByRule, SentTold, ToldOn, OrderFree, ComposedHeard}
 use Rattle.boxes.proofs.Sent.{frame_fits}
 use Rattle.boxes.proofs.Shown.{Shows, shown_closes, shown_same}
 use Rattle.boxes.proofs.Hears.{told_shows}
-use Rattle.boxes.proofs.Voices.{same_voice}
+use Rattle.boxes.proofs.Found.{same_found}
 
 pub box_determined : {K : Type 0} → BoxDetermined K
 box_determined a b e = λ i. record {
@@ -41,39 +44,72 @@ box_determined a b e = λ i. record {
   due = is_prop→PathP (λ j. (e j).horizon.0 ≤ (e j).t + 1) (λ j. le_prop) a.due b.due i;
 }
 
-then_mapped : {X Y D E : Type 0} (go : X → Y) (up : D → E) (r : Result X D) → and_then up r (λ x. Ok (go x)) ≡ result_map_both go up r
-then_mapped go up (Ok x) = refl
-then_mapped go up (Err e) = refl
+pub listening_determined : {K : Type 0} → ListeningDetermined K
+listening_determined a b held notes =
+    let resting = box_determined a.resting b.resting held in
+    (λ i. record {
+      resting = resting i;
+      notes = notes i;
+      itself = is_prop→PathP (λ j. member (notes j).heard (resting j).held.number.0 ≡ true) (λ j. Bool-set (member (notes j).heard (resting j).held.number.0) true) a.itself b.itself i;
+    })
+
+then_mapped : {X Y D E : Type 0} (y : Y) (up : D → E) (r : Result X D) → and_then up r (λ _. Ok y) ≡ result_map_both (λ _. y) up r
+then_mapped y up (Ok x) = refl
+then_mapped y up (Err e) = refl
 
 -- the set that a box sends can only be wrong for its hearer, in its own company
 sent_set : {K : Type 0} (a : Resting K) (b : Held K) → a.held.n ≡ b.n → bad_set b (frame_of a.held) ≡ member a.held.missing b.number.0
+unfolding bad_set
 sent_set a b n =
     let s = a.held.missing in
     let none = none_any (λ i. member s i && leb b.n i) 32 (λ i _. let z : a.held.n ≤ i → member s i ≡ false = bit_high a.held.n s.mask i a.within in grind (arith, nat_tests)) in
     let own = a.present in
     grind arith
 
-module _ {K : Type 0} (size : ℕ) (image : K → List ℕ) (named : List ℕ → Option K) (leads : K → K → Bool) (total : (x y : K) → (leads x y ≡ true) ⊎ (leads y x ≡ true))
-    (transitive : (x y z : K) → leads x y ≡ true → leads y z ≡ true → leads x z ≡ true)
-    (antisymmetric : (x y : K) → leads x y ≡ true → leads y x ≡ true → x ≡ y) where
-  pub closes_by_rule : ClosesByRule size image named leads
-  closes_by_rule b told = shown_closes leads total transitive antisymmetric b _ _ (told_shows leads total transitive antisymmetric b size named told)
+module _ {K : Type 0} (size : ℕ) (image : K → List ℕ) (named : List ℕ → Option K) (leads : K → K → Bool) where
+  pub sent_told : FrameBack size image named → SentTold size image named leads
+  unfolding frames_in
+  sent_told back [] fit = refl
+  sent_told back (f ∷ more) fit =
+      let here = back f (All-head Fits f more fit) in
+      let rest = sent_told back more (All-tail Fits f more fit) in
+      ap (λ r. cons_option (result_ok r) (frames_in size named (map (frame_bytes image) more))) here ∙ ap (λ fs. f ∷ fs) rest
 
-  pub order_free : OrderFree size image named leads
-  order_free b told again same one =
-      let p = b.held.number.0 in
-      let heard : heard_of size named b.held told ≡ heard_of size named b.held again = λ j q. cond (eqb q p) (Some (frame_of b.held)) (same_voice size named b.held q told again same (one q) j) in
-      let after : List (List ℕ) → Notes K = notes_after size named b.held leads (open_notes b.held) in
-      let shows = told_shows leads total transitive antisymmetric b size named in
-      shown_same leads total transitive antisymmetric b (after told) (after again) (heard_of size named b.held again) (subst (Shows leads b (after told)) heard (shows told)) (shows again)
+  pub told_more : ToldOn size image named leads
+  unfolding notes_after
+  told_more b m [] more = refl
+  told_more b m (bytes ∷ told) more = told_more b (result_unwrap_or (hearing leads size named b.held m bytes) m) told more
 
   pub composed_heard : FrameBack size image named → ComposedHeard size image named leads
+  unfolding hearing checked
   composed_heard back a b m n closed =
       let f = frame_of a.held in
       let beat : eqb (a.held.closed + 1) (b.held.closed + 1) ≡ true = eq-eqb _ _ (ap (λ k. k + 1) closed) in
       let known : leb b.held.n a.held.number.0 ≡ false = lt-leb b.held.n a.held.number.0 (omega (arith, a.placed)) in
-      ap (λ r. and_then (frame_fault b.held) r (λ g. and_then (own_fault b.held) (judged b.held m g) (λ g. Ok (noted leads m g)))) (back f (frame_fits a))
-      ∙ then_mapped (noted leads m) (own_fault b.held) (judged b.held m f)
-      ∙ (λ j. result_map_both (noted leads m) (own_fault b.held) (unless
+      ap (λ r. and_then (frame_refused b.held) r (λ g. and_then (refused b.held) (checked b.held m g) (λ _. Ok (noted leads m g)))) (back f (frame_fits a))
+      ∙ then_mapped (noted leads m f) (refused b.held) (checked b.held m f)
+      ∙ (λ j. result_map_both (λ _. noted leads m f) (refused b.held) (unless
       ((not (beat j), refusal.OffBeat) ∷ (known j, refusal.Stranger) ∷ (member m.heard a.held.number.0, refusal.Heard)
-      ∷ (member b.held.missing a.held.number.0, refusal.Down) ∷ (sent_set a b.held n j, refusal.Set) ∷ []) f))
+      ∷ (member b.held.missing a.held.number.0, refusal.Down) ∷ (sent_set a b.held n j, refusal.Set) ∷ []) tt))
+
+  module _ (total : (x y : K) → (leads x y ≡ true) ⊎ (leads y x ≡ true))
+      (transitive : (x y z : K) → leads x y ≡ true → leads y z ≡ true → leads x z ≡ true)
+      (antisymmetric : (x y : K) → leads x y ≡ true → leads y x ≡ true → x ≡ y) where
+    shows : (b : Resting K) (told : List (List ℕ)) → Shows leads b (notes_after size named leads b.held (open_notes b.held) told) (heard_of b.held (frames_in size named told))
+    shows b told = told_shows leads total transitive antisymmetric b size named told
+
+    pub notes_show : NotesShow size image named leads
+    notes_show b told = let s = shows b told in (s.heard, s.known, s.first)
+
+    pub closes_by_rule : ClosesByRule size image named leads
+    closes_by_rule b told = shown_closes leads total transitive antisymmetric b _ _ (shows b told)
+
+    pub order_free : OrderFree size image named leads
+    unfolding heard_of
+    order_free b told again same one =
+        let p = b.held.number.0 in
+        let came = frames_in size named told in
+        let heard : heard_of b.held came ≡ heard_of b.held (frames_in size named again) = λ j q.
+        cond (eqb q p) (Some (frame_of b.held)) (same_found (from_sender b.held q) came (frames_in size named again) same (λ f g x y s t. one f g x y (grind arith) (grind arith) (grind (arith, nat_tests))) j) in
+        let after : List (List ℕ) → Notes K = notes_after size named leads b.held (open_notes b.held) in
+        shown_same leads total transitive antisymmetric b (after told) (after again) (heard_of b.held (frames_in size named again)) (subst (Shows leads b (after told)) heard (shows b told)) (shows b again)

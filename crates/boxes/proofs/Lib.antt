@@ -3,5 +3,5 @@ pub mod Sent
 pub mod Faulted
 pub mod Shown
 pub mod Hears
-pub mod Voices
+pub mod Found
 pub mod Laws

@@ -5,7 +5,7 @@ use Rattle.sets.specs.declared.set.BoxSet.{BoxSet}
 use Rattle.sets.specs.Tests.{any, count}
 use Rattle.sets.specs.Masks.{member, set_of}
 use Rattle.boxes.specs.declared.states.Listening.{Listening}
-use Rattle.boxes.specs.Rounds.{unheard_in}
+use Rattle.boxes.specs.Rounds.{unheard}
 use Rattle.sets.proofs.Bits.{bit-mask_of, mask_below}
 use Rattle.sets.proofs.Counts.{any_none, count_ext, count_le, count_none}
 
@@ -32,14 +32,14 @@ pub inside_counts : (a b : BoxSet) → any (λ i. member a i && not (member b i)
 inside_counts a b e = count_le (member a) (member b) 32 (λ k l m. let n = any_none (λ i. member a i && not (member b i)) 32 e k l in grind arith)
 
 -- the boxes that a listening box has not heard: all below n, and it is none of them
-module _ {K : Type 0} (l : Listening K) (s : BoxSet) (is : s ≡ unheard_in l.at.held l.notes) where
-  pub unheard_below : s.mask < 2 ^ l.at.held.n
+module _ {K : Type 0} (l : Listening K) (s : BoxSet) (is : s ≡ unheard l.resting.held l.notes) where
+  pub unheard_below : s.mask < 2 ^ l.resting.held.n
   unheard_below =
-      (mask_below l.at.held.n s.mask).1 (λ i m.
-      member_only (λ k. ltb k l.at.held.n && not (member l.notes.heard k)) (λ k. ltb k l.at.held.n) s is (λ k e. grind arith) i (grind (arith, nat_tests)))
+      (mask_below l.resting.held.n s.mask).1 (λ i m.
+      member_only (λ k. ltb k l.resting.held.n && not (member l.notes.heard k)) (λ k. ltb k l.resting.held.n) s is (λ k e. grind arith) i (grind (arith, nat_tests)))
 
-  pub unheard_own : member s l.at.held.number.0 ≡ false
+  pub unheard_own : member s l.resting.held.number.0 ≡ false
   unheard_own =
       let h = l.itself in
-      let m = member_is (λ k. ltb k l.at.held.n && not (member l.notes.heard k)) s is l.at.held.number.0 (omega (arith, l.at.placed, l.at.few)) in
+      let m = member_is (λ k. ltb k l.resting.held.n && not (member l.notes.heard k)) s is l.resting.held.number.0 (omega (arith, l.resting.placed, l.resting.few)) in
       grind arith

@@ -2,7 +2,6 @@
 use Rattle.std.proofs.Common.{◌≡◌, ℕ, ◌<◌, Bool, true, false, cond, not, ◌&&◌, ◌||◌, eqb, ltb, ◌⊎◌, is_some, Some, None, Option, unwrap_or, sym, refl, ap, ◌∙◌, inl, inr, ⊎_elim, arith}
 use Rattle.std.specs.Option.{option_or}
 use Rattle.std.proofs.lemmas.Bool.{eqb-true, eq-eqb, or_cases}
-use Rattle.std.specs.Result.{result_map_both}
 use Rattle.sets.specs.Tests.{any}
 use Rattle.sets.specs.Masks.{member, set_of}
 use Rattle.sets.proofs.Bits.{mask_of-bit}
@@ -10,12 +9,13 @@ use Rattle.sets.proofs.Counts.{any_ext, any-or, any_point}
 use Rattle.kinds.specs.Orders.{sooner}
 use Rattle.kinds.proofs.Firsts.{foremost_only, foremost_more}
 use Rattle.frames.specs.declared.frame.Frame.{Frame}
+use Rattle.frames.specs.Faults.{map_fault}
 use Rattle.boxes.specs.declared.states.Notes.{Notes}
 use Rattle.boxes.specs.declared.states.Resting.{Resting}
 use Rattle.boxes.specs.Boxes.{frame_of}
-use Rattle.boxes.specs.Rounds.{open_notes, noted, unheard_in, own_fault, closed_with, closing}
+use Rattle.boxes.specs.Rounds.{open_notes, noted, unheard, refused, closed_with, closing}
 use Rattle.boxes.specs.Rule as rule
-use Rattle.boxes.specs.Rule.{Heard, estimate_in, unheard, told_missing, first_heard, ruled}
+use Rattle.boxes.specs.Rule.{Heard, estimate_in, not_heard, told_missing, first_heard, ruled}
 use Rattle.sets.proofs.Bits.{set_ext}
 use Rattle.boxes.proofs.Members.{member_is}
 use Rattle.boxes.proofs.Sent.{mask_fits}
@@ -113,11 +113,12 @@ module _ {K : Type 0} (leads : K → K → Bool) (total : (x y : K) → (leads x
         }
 
   -- the round is then closed as the rule says
-  pub shown_closes : (m : Notes K) (h : Heard K) → Shows leads b m h → closing b.held m ≡ result_map_both (λ o. o) (own_fault b.held) (ruled leads b.held h)
+  pub shown_closes : (m : Notes K) (h : Heard K) → Shows leads b m h → closing b.held m ≡ map_fault (refused b.held) (ruled leads b.held h)
+  unfolding closing ruled
   shown_closes m h s =
-      let u : unheard_in b.held m ≡ unheard b.held h = set_ext _ _ (λ i l. ap (λ t. ltb i b.held.n && not t) (member_is _ m.heard s.heard i l)) in
+      let u : unheard b.held m ≡ not_heard b.held h = set_ext _ _ (λ i l. ap (λ t. ltb i b.held.n && not t) (member_is _ m.heard s.heard i l)) in
       let e : m.foremost ≡ unwrap_or (first_heard b.held h leads) b.held.estimate = rw s.first refl in
-      (λ j. result_map_both (λ o. o) (own_fault b.held) (closed_with b.held (u j) (s.known j) (e j)))
+      (λ j. map_fault (refused b.held) (closed_with b.held (u j) (s.known j) (e j)))
 
   -- the frames heard determine the notes
   pub shown_same : (m n : Notes K) (h : Heard K) → Shows leads b m h → Shows leads b n h → m ≡ n

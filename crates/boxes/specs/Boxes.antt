@@ -1,10 +1,11 @@
 -- A box at rest: which one is made, and what it sends. Assumes nothing.
-use Rattle.std.specs.Prelude.{ℕ, ◌+◌, false, not, ◌&&◌, [], ◌∷◌, Result, nat_le, nat_lt}
+use Rattle.std.specs.Prelude.{ℕ, ◌+◌, false, not, [], ◌∷◌, Result, nat_le}
 use Rattle.numbers.specs.declared.refusal.Refusal.{Refusal}
 use Rattle.numbers.specs.declared.refusal.Refusal.TheVariants.{Stranger, Company}
 use Rattle.numbers.specs.Refusals.{unless}
 use Rattle.sets.specs.declared.labels.BoxNumber.{BoxNumber}
 use Rattle.sets.specs.declared.labels.RoundNumber.{RoundNumber}
+use Rattle.sets.specs.Companies.{company}
 use Rattle.sets.specs.Masks.{set_of}
 use Rattle.frames.specs.declared.frame.Frame.{Frame}
 use Rattle.boxes.specs.declared.states.Held.{Held}
@@ -13,7 +14,7 @@ use Rattle.boxes.specs.declared.states.Held.{Held}
 abbrev pub new_box : {K : Type 0} → BoxNumber → ℕ → ℕ → K → Result (Held K) Refusal
 new_box number n t proposal =
     unless
-    ((not (nat_le 2 n && nat_le n 32 && nat_le 1 t && nat_lt t n), Company) ∷ (nat_le n number.0, Stranger) ∷ [])
+    ((not (company n t), Company) ∷ (nat_le n number.0, Stranger) ∷ [])
     (record { number = number; n = n; t = t; closed = 0; estimate = proposal; missing = set_of (λ _. false); horizon = record { 0 = t + 1 } })
 
 -- the round that a box opens next, or has open

@@ -1,6 +1,5 @@
 -- A round of a box: what it notes as it opens it, which frames it hears, and what it closes to. Assumes nothing.
-use Rattle.std.specs.Prelude.{ℕ, ◌+◌, ◌-◌, min, Bool, cond, not, ◌&&◌, ◌||◌, List, [], ◌∷◌, Some, Ok, Option, Result, ◌==◌, nat_eq, nat_le, nat_lt}
-use Rattle.std.specs.Result.{result_map_both}
+use Rattle.std.specs.Prelude.{ℕ, ◌+◌, ◌-◌, min, ⊤, Bool, cond, not, ◌&&◌, ◌||◌, List, [], ◌∷◌, Some, Ok, Option, Result, ◌==◌, nat_eq, nat_le, nat_lt}
 use Rattle.numbers.specs.declared.refusal.Refusal.{Refusal}
 use Rattle.numbers.specs.declared.refusal.Refusal.TheVariants as refusal
 use Rattle.numbers.specs.Refusals.{unless}
@@ -11,7 +10,7 @@ use Rattle.sets.specs.Masks.{member, set_of}
 use Rattle.kinds.specs.Orders.{sooner}
 use Rattle.frames.specs.declared.fault.FrameFault.{FrameFault}
 use Rattle.frames.specs.declared.frame.Frame.{Frame}
-use Rattle.frames.specs.Faults.{and_then}
+use Rattle.frames.specs.Faults.{and_then, map_fault}
 use Rattle.frames.specs.Frames.{read_frame}
 use Rattle.boxes.specs.declared.fault.RoundFault.{RoundFault}
 use Rattle.boxes.specs.declared.fault.OwnFault.{OwnFault}
@@ -24,18 +23,18 @@ use Rattle.boxes.specs.declared.states.Closed.TheVariants.{Rests, Rings}
 use Rattle.boxes.specs.Boxes.{next_round}
 
 -- the fault of a frame, and a refusal by the box itself, in the open round
-abbrev pub in_round : {K : Type 0} → Held K → FrameFault → RoundFault
-in_round b e = record { round = next_round b; fault = e }
+abbrev pub round_fault : {K : Type 0} → Held K → FrameFault → RoundFault
+round_fault b e = record { round = next_round b; fault = e }
 
-abbrev pub refused_in : {K : Type 0} → Held K → Refusal → OwnFault
-refused_in b e = record { round = next_round b; refusal = e }
+abbrev pub own_fault : {K : Type 0} → Held K → Refusal → OwnFault
+own_fault b e = record { round = next_round b; refusal = e }
 
 -- the same as faults of the box
-abbrev pub frame_fault : {K : Type 0} → Held K → FrameFault → BoxFault
-frame_fault b e = fault.Frame (in_round b e)
+abbrev pub frame_refused : {K : Type 0} → Held K → FrameFault → BoxFault
+frame_refused b e = fault.Frame (round_fault b e)
 
-abbrev pub own_fault : {K : Type 0} → Held K → Refusal → BoxFault
-own_fault b e = fault.Own (refused_in b e)
+abbrev pub refused : {K : Type 0} → Held K → Refusal → BoxFault
+refused b e = fault.Own (own_fault b e)
 
 -- ---- hearing
 
@@ -44,7 +43,7 @@ abbrev pub open_notes : {K : Type 0} → Held K → Notes K
 open_notes b = record { heard = set_of (λ i. nat_eq i b.number.0); known = b.missing; foremost = b.estimate }
 
 -- that the frame's set has a box that is none of the company's, or the sender or the hearer
-abbrev pub bad_set : {K : Type 0} → Held K → Frame K → Bool
+unfoldable pub bad_set : {K : Type 0} → Held K → Frame K → Bool
 bad_set b f = any (λ i. member f.missing i && nat_le b.n i) 32 || member f.missing f.sender.0 || member f.missing b.number.0
 
 -- the faults that a frame can have for the box, in the order in which they count
@@ -57,9 +56,9 @@ faults b m f =
     ∷ (bad_set b f, refusal.Set)
     ∷ []
 
--- the frame, unless the box refuses it
-abbrev pub judged : {K : Type 0} → Held K → Notes K → Frame K → Result (Frame K) Refusal
-judged b m f = unless (faults b m f) f
+-- whether the box refuses the frame, and why
+unfoldable pub checked : {K : Type 0} → Held K → Notes K → Frame K → Result ⊤ Refusal
+checked b m f = unless (faults b m f) tt
 
 module _ {K : Type 0} (leads : K → K → Bool) where
   -- the notes with one frame more
@@ -71,10 +70,10 @@ module _ {K : Type 0} (leads : K → K → Bool) where
   }
 
   -- the notes after some bytes were told, or why they are refused
-  abbrev pub hearing : ℕ → (List ℕ → Option K) → Held K → Notes K → List ℕ → Result (Notes K) BoxFault
+  unfoldable pub hearing : ℕ → (List ℕ → Option K) → Held K → Notes K → List ℕ → Result (Notes K) BoxFault
   hearing size named b m bytes =
-      and_then (frame_fault b) (read_frame size named bytes) (λ f.
-      and_then (own_fault b) (judged b m f) (λ f.
+      and_then (frame_refused b) (read_frame size named bytes) (λ f.
+      and_then (refused b) (checked b m f) (λ _.
       Ok (noted m f)))
 
 -- ---- closing
@@ -88,32 +87,32 @@ abbrev pub outcome : {K : Type 0} → Closed K → Outcome K
 outcome (Rests b) = rests b.held
 outcome (Rings round proposal) = rings round proposal
 
--- a box's best horizon after a round in which it knows the boxes of a set missing
-abbrev pub best_horizon : {K : Type 0} → Held K → BoxSet → ℕ
-best_horizon b known = min b.horizon.0 (b.closed + 1 + b.t - count (member known) 32)
+-- a box's best horizon after its next round, where it knows the boxes of the set F missing
+abbrev pub best_horizon : {K : Type 0} → Held K → (F : BoxSet) → ℕ
+best_horizon b F = min b.horizon.0 (b.closed + 1 + b.t - count (member F) 32)
 
--- the box's values after its next round, in which it did not hear the boxes of a set
-abbrev pub advanced : {K : Type 0} → Held K → BoxSet → BoxSet → K → Held K
-advanced b unheard known estimate = record {
+-- its values after that round, where it did not hear the boxes of the set N and holds an estimate
+abbrev pub advanced : {K : Type 0} → Held K → (N F : BoxSet) → K → Held K
+advanced b N F estimate = record {
   number = b.number;
   n = b.n;
   t = b.t;
   closed = b.closed + 1;
   estimate = estimate;
-  missing = unheard;
-  horizon = record { 0 = best_horizon b known };
+  missing = N;
+  horizon = record { 0 = best_horizon b F };
 }
 
--- how a round is closed that leaves some boxes unheard, in which the box knows those of a set missing and holds an estimate
-abbrev pub closed_with : {K : Type 0} → Held K → BoxSet → BoxSet → K → Result (Outcome K) Refusal
-closed_with b unheard known estimate =
+-- how it closes that round: the tally is refused where N has more than t boxes, or F one that is not in N
+unfoldable pub closed_with : {K : Type 0} → Held K → (N F : BoxSet) → K → Result (Outcome K) Refusal
+closed_with b N F estimate =
     unless
-    ((nat_lt b.t (count (member unheard) 32) || any (λ i. member known i && not (member unheard i)) 32, refusal.Tally) ∷ [])
-    (cond (best_horizon b known == (next_round b).0) (rings (next_round b) estimate) (rests (advanced b unheard known estimate)))
+    ((nat_lt b.t (count (member N) 32) || any (λ i. member F i && not (member N i)) 32, refusal.Tally) ∷ [])
+    (cond (best_horizon b F == (next_round b).0) (rings (next_round b) estimate) (rests (advanced b N F estimate)))
 
 -- the boxes of the company that were not heard
-abbrev pub unheard_in : {K : Type 0} → Held K → Notes K → BoxSet
-unheard_in b m = set_of (λ i. nat_lt i b.n && not (member m.heard i))
+abbrev pub unheard : {K : Type 0} → Held K → Notes K → BoxSet
+unheard b m = set_of (λ i. nat_lt i b.n && not (member m.heard i))
 
-abbrev pub closing : {K : Type 0} → Held K → Notes K → Result (Outcome K) BoxFault
-closing b m = result_map_both (λ o. o) (own_fault b) (closed_with b (unheard_in b m) m.known m.foremost)
+unfoldable pub closing : {K : Type 0} → Held K → Notes K → Result (Outcome K) BoxFault
+closing b m = map_fault (refused b) (closed_with b (unheard b m) m.known m.foremost)

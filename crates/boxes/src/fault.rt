@@ -27,7 +27,7 @@ pub struct OwnFault {
 pub enum BoxFault {
     // The bytes hold no frame.
     Frame(RoundFault),
-    // They do, or none were told, and the box refused.
+    // The box itself refused: a frame that it could read, or the tally.
     Own(OwnFault),
 }
 
@@ -61,7 +61,7 @@ impl BoxFault {
         }
     }
 
-    // The place, from 0, of the first byte at fault, if it is the frame's.
+    // The place, from 0, at which the field at fault begins, or of the first surplus byte, if the fault is the frame's.
     pub fn place(self) -> Option<usize>
         ensures { result ≡ place_of self }
     {

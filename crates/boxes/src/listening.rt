@@ -1,9 +1,10 @@
 // A listening box: it hears frames and closes its round.
 ghost use Rattle.std.specs.Prelude.{◌≡◌, ⊤};
 ghost use Rattle.std.specs.Result.{result_map_both, result_unwrap_or};
-ghost use Rattle.boxes.specs.Boxes.{next_round};
+ghost use Rattle.frames.specs.Faults.{map_fault};
 ghost use Rattle.frames.specs.Frames.{read_frame};
-ghost use Rattle.boxes.specs.Rounds.{in_round, refused_in, bad_set, judged, noted, hearing, outcome, unheard_in, closing};
+ghost use Rattle.boxes.specs.Boxes.{next_round};
+ghost use Rattle.boxes.specs.Rounds.{round_fault, own_fault, bad_set, checked, noted, hearing, outcome, unheard, closing};
 
 use super::fault::{BoxFault, OwnFault, RoundFault};
 use super::states::{Closed, Held, Listening, Notes, Resting};
@@ -43,20 +44,20 @@ impl<K: Copy> Clone for Listening<K> {
 
 impl<K: Kind> Listening<K> {
     pub fn number(self) -> BoxNumber
-        ensures { result ≡ self.at.held.number }
+        ensures { result ≡ self.resting.held.number }
     {
-        self.at.number()
+        self.resting.number()
     }
 
     // The round that is open.
     fn round(self) -> RoundNumber
-        ensures { result ≡ next_round self.at.held }
+        ensures { result ≡ next_round self.resting.held }
     {
-        self.at.next_round()
+        self.resting.next_round()
     }
 
     fn own_fault(self, refusal: Refusal) -> OwnFault
-        ensures { result ≡ refused_in self.at.held refusal }
+        ensures { result ≡ own_fault self.resting.held refusal }
     {
         OwnFault {
             round: self.round(),
@@ -66,7 +67,7 @@ impl<K: Kind> Listening<K> {
 
     // The frame that the bytes hold, or its fault with the open round.
     fn read(self, bytes: &[u8]) -> Result<Frame<K>, RoundFault>
-        ensures { result ≡ result_map_both (λ f. f) (in_round self.at.held) (read_frame K.SIZE K.named bytes.now) }
+        ensures { result ≡ map_fault (round_fault self.resting.held) (read_frame K.SIZE K.named bytes.now) }
     {
         read_frame::<K>(bytes).map_err(|fault| RoundFault {
             round: self.round(),
@@ -75,61 +76,65 @@ impl<K: Kind> Listening<K> {
     }
 
     // Whether the frame's set has a box that it may not have: one outside the company, the sender or the hearer.
+    #[tactic(auto, unfolding(crate::specs::Rounds::bad_set))]
     fn has_bad_set(self, frame: Frame<K>) -> bool
-        ensures { result ≡ bad_set self.at.held frame }
+        ensures { result ≡ bad_set self.resting.held frame }
     {
-        let Held { number, n, .. } = self.at.held;
+        let Held { number, n, .. } = self.resting.held;
         !frame.missing.is_below(n)
             || frame.missing.contains(frame.sender)
             || frame.missing.contains(number)
     }
 
-    // The frame, unless the box refuses it.
-    fn judge(self, frame: Frame<K>) -> Result<Frame<K>, OwnFault>
-        ensures { result ≡ result_map_both (λ f. f) (refused_in self.at.held) (judged self.at.held self.notes frame) }
+    // Whether the box refuses the frame, and why.
+    #[tactic(auto, unfolding(crate::specs::Rounds::checked))]
+    fn check(self, frame: Frame<K>) -> Result<(), OwnFault>
+        ensures { result ≡ map_fault (own_fault self.resting.held) (checked self.resting.held self.notes frame) }
     {
         if frame.round != self.round() {
             return Err(self.own_fault(Refusal::OffBeat));
         }
-        if frame.sender.0 >= self.at.held.n {
+        if frame.sender.0 >= self.resting.held.n {
             return Err(self.own_fault(Refusal::Stranger));
         }
         if self.notes.heard.contains(frame.sender) {
             return Err(self.own_fault(Refusal::Heard));
         }
-        if self.at.held.missing.contains(frame.sender) {
+        if self.resting.held.missing.contains(frame.sender) {
             return Err(self.own_fault(Refusal::Down));
         }
         if self.has_bad_set(frame) {
             return Err(self.own_fault(Refusal::Set));
         }
-        Ok(frame)
+        Ok(())
     }
 
     // Hears the frame that the bytes hold; where it is refused the box stays as it was.
+    #[tactic(auto, unfolding(crate::specs::Rounds::hearing))]
     pub fn hear(&mut self, bytes: &[u8]) -> Result<(), BoxFault>
-        ensures told { result ≡ result_map_both (λ _. tt) (λ e. e) (hearing K.leads K.SIZE K.named self.old.at.held self.old.notes bytes.now) }
-        ensures at { self.new.at ≡ self.old.at }
-        ensures notes { self.new.notes ≡ result_unwrap_or (hearing K.leads K.SIZE K.named self.old.at.held self.old.notes bytes.now) self.old.notes }
+        ensures answer { result ≡ result_map_both (λ _. tt) (λ e. e) (hearing K.leads K.SIZE K.named self.old.resting.held self.old.notes bytes.now) }
+        ensures resting { self.new.resting ≡ self.old.resting }
+        ensures notes { self.new.notes ≡ result_unwrap_or (hearing K.leads K.SIZE K.named self.old.resting.held self.old.notes bytes.now) self.old.notes }
     {
         let frame = self.read(bytes)?;
-        let frame = self.judge(frame)?;
+        self.check(frame)?;
         self.notes = self.notes.with(frame);
         Ok(())
     }
 
     // The boxes of the company that were not heard.
     fn unheard(self) -> BoxSet
-        ensures { result ≡ unheard_in self.at.held self.notes }
+        ensures { result ≡ unheard self.resting.held self.notes }
     {
-        BoxSet::all_below(self.at.held.n).difference(self.notes.heard)
+        BoxSet::all_below(self.resting.held.n).difference(self.notes.heard)
     }
 
     // Closes the round by the frames heard; where the tally is refused the box goes on listening as it was.
+    #[tactic(auto, unfolding(crate::specs::Rounds::closing, crate::specs::Rounds::closed_with))]
     pub fn close(self) -> Result<Closed<K>, (Listening<K>, BoxFault)>
-        ensures { result_map_both outcome (λ e. e) result ≡ result_map_both (λ o. o) (λ e. (self, e)) (closing self.at.held self.notes) }
+        ensures { result_map_both outcome (λ e. e) result ≡ map_fault (λ e. (self, e)) (closing self.resting.held self.notes) }
     {
-        let Held { t, horizon, .. } = self.at.held;
+        let Held { t, horizon, .. } = self.resting.held;
         let known = self.notes.known;
         let unheard = self.unheard();
         if unheard.count() > t || !known.is_subset(unheard) {
@@ -149,7 +154,7 @@ impl<K: Kind> Listening<K> {
                 estimate: self.notes.foremost,
                 missing: unheard,
                 horizon: best,
-                ..self.at.held
+                ..self.resting.held
             },
         }))
     }

@@ -10,12 +10,8 @@ use super::states::{Held, Listening, Notes, Resting};
 use frames::{Frame, write_frame};
 use kinds::Kind;
 use numbers::Refusal;
-use sets::{BoxNumber, BoxSet, RoundNumber};
+use sets::{BoxNumber, BoxSet, RoundNumber, is_company};
 use std::alloc::AllocError;
-
-const LEAST_COMPANY: u32 = 2;
-
-const MOST_COMPANY: u32 = 32;
 
 // A copy, which takes no memory. By hand, since `Clone` is not derived for a generic struct with ghost fields.
 impl<K: Copy> Clone for Resting<K> {
@@ -29,11 +25,11 @@ impl<K: Copy> Clone for Resting<K> {
 }
 
 impl<K: Kind> Resting<K> {
-    // A new box of a company of n, of which t may fall, with its proposal. n and t stay two parameters, as `Held` tells.
+    // A new box of a company of n, of which t may fall, with its proposal.
     pub fn new(number: BoxNumber, n: u32, t: u32, proposal: K) -> Result<Resting<K>, Refusal>
         ensures { result_map_both (λ b. b.held) (λ e. e) result ≡ new_box number n t proposal }
     {
-        if !(LEAST_COMPANY..=MOST_COMPANY).contains(&n) || !(1..n).contains(&t) {
+        if !is_company(n, t) {
             return Err(Refusal::Company);
         }
         if number.0 >= n {
@@ -58,12 +54,11 @@ impl<K: Kind> Resting<K> {
         self.held.number
     }
 
-    // How many boxes its company has. By a pattern, since its must-fail edit needs a text that stands once.
+    // How many boxes its company has.
     pub fn n(self) -> u32
         ensures { result ≡ self.held.n }
     {
-        let Held { n, .. } = self.held;
-        n
+        self.held.n
     }
 
     // How many of them may fall.
@@ -126,11 +121,11 @@ impl<K: Kind> Resting<K> {
 
     // Opens the next round; the box has then heard itself.
     pub fn open(self) -> Listening<K>
-        ensures at { result.at ≡ self }
+        ensures resting { result.resting ≡ self }
         ensures notes { result.notes ≡ open_notes self.held }
     {
         Listening {
-            at: self,
+            resting: self,
             notes: Notes {
                 heard: BoxSet::only(self.held.number),
                 known: self.held.missing,

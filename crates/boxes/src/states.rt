@@ -5,9 +5,9 @@ ghost use Rattle.sets.specs.Masks.{member};
 
 use sets::{BoxNumber, BoxSet, RoundNumber};
 
-// The seven values that a box holds. They are plain, n and t too, so that a definition can name a box with no proof of its limits.
+// The seven values that a box holds.
 #[derive(Clone, Copy, Debug, PartialEq, Eq)]
-pub struct Held<K> {
+pub(crate) struct Held<K> {
     pub number: BoxNumber,
     // How many boxes its company has.
     pub n: u32,
@@ -18,7 +18,7 @@ pub struct Held<K> {
     pub estimate: K,
     // The boxes that it did not hear in the last round.
     pub missing: BoxSet,
-    // The best horizon: the earliest round for which it has found that it may ring.
+    // The best horizon: the smallest of t + 1 and the horizons of the rounds that it has closed.
     pub horizon: RoundNumber,
 }
 
@@ -40,7 +40,7 @@ pub struct Resting<K> {
 
 // What a box has noted of the round that it listens to.
 #[derive(Clone, Copy, Debug, PartialEq, Eq)]
-pub struct Notes<K> {
+pub(crate) struct Notes<K> {
     // The boxes heard, itself among them.
     pub heard: BoxSet,
     // The boxes that it or a box heard has found missing.
@@ -52,9 +52,10 @@ pub struct Notes<K> {
 // A box that has opened a round and hears frames.
 #[derive(Copy, Debug, PartialEq, Eq)]
 pub struct Listening<K> {
-    pub(crate) at: Resting<K>,
+    // The box as it was at rest.
+    pub(crate) resting: Resting<K>,
     pub(crate) notes: Notes<K>,
-    ghost itself: { member notes.heard at.held.number.0 ≡ true },
+    ghost itself: { member notes.heard resting.held.number.0 ≡ true },
 }
 
 // What closing a round leaves: a box at rest, or the round in which it rings and the proposal on which it does.

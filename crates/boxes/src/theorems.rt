@@ -1,17 +1,22 @@
 // What holds of every box, on the contract of a function; what the function returns is of no meaning.
 ghost use Rattle.std.specs.Prelude.{◌≡◌};
-ghost use Rattle.boxes.specs.Theorems.{BoxDetermined, FrameShort, ClosesByRule, OrderFree, ComposedHeard};
+ghost use Rattle.boxes.specs.Theorems.{BoxDetermined, ListeningDetermined, FrameShort, NotesShow, ClosesByRule, SentTold, ToldOn, OrderFree, ComposedHeard};
 
 use frames::frames_stand;
 use kinds::Kind;
 
-// A box at rest is what it holds, and its frame is short; whatever is told to it in a round, it closes the round as the rule
-// says of the frames heard, in whatever order; what a box composes another hears as that.
+// A box is what it holds and has noted, and its frame is short. Whatever is told to it in a round, its notes and its closing are
+// those of the frames heard: of each other box the first that it may hear. Where these are the same for each sender, the order of
+// telling does not count. What a box composes another notes as that, unless it has heard the sender, misses it or is told missing.
 pub fn boxes_stand<K: Kind>() -> u8
     ensures zero { result ≡ 0 }
     ensures determined { BoxDetermined K }
-    ensures short { FrameShort K.SIZE K.image K.named K.leads }
+    ensures listening { ListeningDetermined K }
+    ensures short { FrameShort K.image }
+    ensures show { NotesShow K.SIZE K.image K.named K.leads }
     ensures closes { ClosesByRule K.SIZE K.image K.named K.leads }
+    ensures sent { SentTold K.SIZE K.image K.named K.leads }
+    ensures more { ToldOn K.SIZE K.image K.named K.leads }
     ensures order { OrderFree K.SIZE K.image K.named K.leads }
     ensures agree { ComposedHeard K.SIZE K.image K.named K.leads }
 {

@@ -155,10 +155,13 @@ wide : (ns : List ℕ) → AllByRecursion (λ n. n < 268435456) ns → AllByRecu
 wide [] all = tt
 wide (n ∷ ns) (low, all) = (omega arith, wide ns all)
 
--- a number of an image takes at most four bytes
-image_length : (ns : List ℕ) → AllByRecursion (λ n. n < 268435456) ns → length (written_all ns) ≤ 4 * length ns
-image_length [] all = omega (arith, length-nil)
-image_length (n ∷ ns) (low, all) = omega (arith, image_length ns all, length-cons n ns, (number_length 3 n low).1)
+-- a number of an image takes one to four bytes
+image_length : (ns : List ℕ) → AllByRecursion (λ n. n < 268435456) ns → (length ns ≤ length (written_all ns)) × (length (written_all ns) ≤ 4 * length ns)
+image_length [] all = (omega (arith, length-nil), omega (arith, length-nil))
+image_length (n ∷ ns) (low, all) =
+    let rest = image_length ns all in
+    let here = number_length 3 n low in
+    (omega (arith, rest.0, here.0, length-cons n ns), omega (arith, rest.1, here.1, length-cons n ns))
 
 module _ {K : Type 0} (size : ℕ) (image : K → List ℕ) (named : List ℕ → Option K) where
   pub frame_image : FrameImage size image named
@@ -210,17 +213,14 @@ module _ {K : Type 0} (size : ℕ) (image : K → List ℕ) (named : List ℕ �
     frame_length f a b c r s m =
         let x = f.estimate in
         let ns = image x in
-        omega (
-          arith,
-          length-cons f.round.0 (f.sender.0 ∷ f.missing.mask ∷ ns),
-          length-cons f.sender.0 (f.missing.mask ∷ ns),
-          length-cons f.missing.mask ns,
-          (number_length a f.round.0 r).1,
-          (number_length b f.sender.0 s).1,
-          (number_length c f.missing.mask m).1,
-          image_length ns (small x),
-          long x,
-        )
+        let round = number_length a f.round.0 r in
+        let sender = number_length b f.sender.0 s in
+        let missing = number_length c f.missing.mask m in
+        let rest = image_length ns (small x) in
+        let all : length (frame_bytes image f) ≡ length (written f.round.0) + length (written f.sender.0) + length (written f.missing.mask) + length (written_all ns) =
+        omega (arith, length-cons f.round.0 (f.sender.0 ∷ f.missing.mask ∷ ns), length-cons f.sender.0 (f.missing.mask ∷ ns), length-cons f.missing.mask ns)
+        in
+        (omega (arith, all, round.0, sender.0, missing.0, rest.0, long x), omega (arith, all, round.1, sender.1, missing.1, rest.1, long x))
 
   pub frame_only : ((ns : List ℕ) (x : K) → named ns ≡ Some x → image x ≡ ns) → FrameOnly size image named
   unfolding read_proposal

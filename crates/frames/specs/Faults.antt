@@ -1,5 +1,6 @@
 -- The faults of a frame: refusal, field and place of each, and how that of a number comes up inside. Assumes nothing.
 use Rattle.std.specs.Prelude.{ℕ, zero, suc, List, ◌++◌, Ok, Err, codes, decimal, Result}
+use Rattle.std.specs.Result.{result_map_both}
 use Rattle.numbers.specs.declared.codec.Decoded.{Decoded}
 use Rattle.numbers.specs.declared.codec.NumberFault.{NumberFault}
 use Rattle.numbers.specs.declared.refusal.Refusal.{Refusal}
@@ -49,6 +50,10 @@ fault_text e = refusal_text (refusal_of e) ++ (codes " " ++ (field_word (field_o
 abbrev pub and_then : {X Y D E : Type 0} → (D → E) → Result X D → (X → Result Y E) → Result Y E
 and_then up (Ok x) go = go x
 and_then up (Err e) go = Err (up e)
+
+-- what was read, with its fault as another
+abbrev pub map_fault : {X D E : Type 0} → (D → E) → Result X D → Result X E
+map_fault up r = result_map_both (λ x. x) up r
 
 -- the fault of a number in a field
 abbrev pub in_field : Field → NumberFault → FieldFault

@@ -15,6 +15,10 @@ frame_numbers image f = f.round.0 ∷ f.sender.0 ∷ f.missing.mask ∷ image f.
 abbrev pub frame_bytes : {K : Type 0} → (K → List ℕ) → Frame K → List ℕ
 frame_bytes image f = written_all (frame_numbers image f)
 
+-- no frame that a box of a company sends is longer
+abbrev pub longest_frame : ℕ
+longest_frame = 24
+
 -- the numbers of an image of some size that begins at a place, and the place behind the last
 unfoldable pub read_image : List ℕ → ℕ → ℕ → Result (List ℕ × ℕ) FrameFault
 read_image bytes zero place = Ok ([], place)

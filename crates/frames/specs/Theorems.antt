@@ -36,7 +36,8 @@ module _ {K : Type 0} (size : ℕ) (image : K → List ℕ) (named : List ℕ �
   abbrev pub FrameSurplus : Type 0
   FrameSurplus = (f : Frame K) (b : ℕ) (behind : List ℕ) → Fits f → read_frame size named (frame_bytes image f ++ (b ∷ behind)) ≡ Err (Surplus (length (frame_bytes image f)))
 
-  -- by how many groups of seven bits, at least one each, round, sender and set need at most: as many bytes, and four for each number of the image
+  -- every number takes a byte at least. Where round, sender and set need so many groups of seven bits at most, at least one each, the frame
+  -- has as many bytes at most, and four for each number of the image
   abbrev pub FrameLength : Type 0
   FrameLength = (f : Frame K) (a b c : ℕ) → f.round.0 < 128 ^ suc a → f.sender.0 < 128 ^ suc b → f.missing.mask < 128 ^ suc c
-      → length (frame_bytes image f) ≤ suc a + suc b + suc c + 4 * size
+      → (3 + size ≤ length (frame_bytes image f)) × (length (frame_bytes image f) ≤ suc a + suc b + suc c + 4 * size)

@@ -9,6 +9,6 @@ mod theorems;
 
 pub use codec::{read_frame, write_frame};
 pub use fault::{Field, FieldFault, FrameFault};
-pub use frame::Frame;
+pub use frame::{Frame, LONGEST_FRAME};
 pub use hex::HexBytes;
 pub use theorems::{examples_stand, frames_stand};

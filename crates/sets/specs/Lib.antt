@@ -1,4 +1,5 @@
 pub mod Tests
 pub mod Masks
+pub mod Companies
 pub mod Theorems
 pub mod Texts

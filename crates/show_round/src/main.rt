@@ -15,7 +15,7 @@ const N: u32 = 3;
 const T: u32 = 1;
 
 // No frame is longer. It is composed into bytes that are lent, since the library has no heap.
-const LONGEST: usize = 24;
+X
 
 fn made(number: u32, piece: u16) -> Result<Resting<Piece>, Refusal> {
     Resting::new(BoxNumber(number), N, T, Piece::new(piece)?)

@@ -5,7 +5,7 @@ use Rattle.boxes.proofs.states.Listening.close.Goals as goal
 use Rattle.boxes.proofs.states.Listening.close.Goals.{After-count-2}
 
 -- a tally that is not refused: the boxes known missing are among those not heard, which are at most t
-tallied : (g : given.Over) (c : After-count-2 g) → c.count-2.result ≤ c.args.self.at.held.t
+tallied : (g : given.Over) (c : After-count-2 g) → c.count-2.result ≤ c.args.self.resting.held.t
 tallied g c =
     let s = c.is_subset.ensures in
     let kept = c.if-not-is_subset.false in
@@ -19,15 +19,15 @@ pub invariant_of-result : goal.invariant_of-result
 invariant_of-result g c =
     let l = c.args.self in
     let few = tallied g (goal.at.invariant_of-result g c).After-count-2 in
-    let round : c.round-round.result.0 ≡ l.at.held.closed + 1 = ap (λ z. z.0) c.round-round.ensures in
+    let round : c.round-round.result.0 ≡ l.resting.held.closed + 1 = ap (λ z. z.0) c.round-round.ensures in
     let u = c.unheard-unheard.result in
     let e = c.unheard-unheard.ensures in
     record {
-      several = l.at.several;
-      few = l.at.few;
-      fallible = l.at.fallible;
-      survived = l.at.survived;
-      placed = l.at.placed;
+      several = l.resting.several;
+      few = l.resting.few;
+      fallible = l.resting.fallible;
+      survived = l.resting.survived;
+      placed = l.resting.placed;
       within = unheard_below l u e;
       present = unheard_own l u e;
       sparse = omega arith;

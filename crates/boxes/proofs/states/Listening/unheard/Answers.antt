@@ -6,7 +6,7 @@ use Rattle.boxes.proofs.states.Listening.unheard.Goals as goal
 
 pub returns : goal.returns
 returns g c =
-    let company : ℕ → Bool = λ i. ltb i c.args.self.at.held.n in
+    let company : ℕ → Bool = λ i. ltb i c.args.self.resting.held.n in
     let heard = member c.args.self.notes.heard in
     c.difference.ensures
     ∙ set_ext _ (λ i. company i && not (heard i)) (λ i l. ap (λ z. z && not (heard i)) (member_is company c.«all_below».result c.«all_below».ensures i l))

@@ -1,0 +1,10 @@
+-- The limits of a company. Assumes nothing.
+use Rattle.std.specs.Prelude.{ℕ, Bool, ◌&&◌, nat_le, nat_lt}
+
+-- n boxes may be a company
+abbrev pub company_size : ℕ → Bool
+company_size n = nat_le 2 n && nat_le n 32
+
+-- and t of them may fall
+abbrev pub company : ℕ → ℕ → Bool
+company n t = company_size n && nat_le 1 t && nat_lt t n
