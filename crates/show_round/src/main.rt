@@ -3,7 +3,7 @@
 #![tactic(auto)]
 
 use boxes::{BoxFault, Closed, Listening, Resting};
-use frames::HexBytes;
+use frames::{HexBytes, LONGEST_FRAME};
 use kinds::Piece;
 use numbers::Refusal;
 use sets::BoxNumber;
@@ -13,9 +13,6 @@ use std::io;
 const N: u32 = 3;
 
 const T: u32 = 1;
-
-// No frame is longer. It is composed into bytes that are lent, since the library has no heap.
-X
 
 fn made(number: u32, piece: u16) -> Result<Resting<Piece>, Refusal> {
     Resting::new(BoxNumber(number), N, T, Piece::new(piece)?)
@@ -44,9 +41,9 @@ fn show_fault(rt: &impl Print, hearer: BoxNumber, fault: BoxFault) -> io::Result
     )
 }
 
-// The sender composes its frame, and the hearer is told it.
+// The sender composes its frame into bytes that are lent, and the hearer is told it.
 fn tell(rt: &impl Print, sender: Resting<Piece>, ear: &mut Listening<Piece>) -> io::Result<()> {
-    let mut line = [0; LONGEST];
+    let mut line = [0; LONGEST_FRAME];
     let frame = match sender.compose(&mut line) {
         Ok(len) => &line[..len],
         Err(refusal) => return println!(rt; "refused {refusal}"),
@@ -89,6 +86,7 @@ fn round(
     tell(rt, second, &mut one)?;
     if let Some(third) = falling {
         tell(rt, third, &mut one)?;
+        println!(rt; "box {} falls", third.number())?;
     }
     tell(rt, first, &mut other)?;
     let left = close(rt, one)?;
