@@ -23,11 +23,22 @@ use Rattle.boxes.specs.declared.states.Resting.{Resting}
 use Rattle.boxes.specs.Boxes.{frame_of}
 use Rattle.boxes.specs.Rounds.{open_notes, frame_refused, refused, bad_set, checked, noted, hearing}
 use Rattle.boxes.specs.Rule.{from_sender, heard_of, frames_in, notes_after}
-use Rattle.boxes.specs.Theorems.{BoxDetermined, ListeningDetermined, NotesShow, ClosesByRule, SentTold, ToldOn, OrderFree, ComposedHeard}
+use Rattle.boxes.specs.Theorems.{BoxKept, ListeningKept, BoxDetermined, ListeningDetermined, NotesShow, ClosesByRule, SentTold, ToldOn, OrderFree, ComposedHeard}
 use Rattle.boxes.proofs.Sent.{frame_fits}
 use Rattle.boxes.proofs.Shown.{Shows, shown_closes, shown_same}
 use Rattle.boxes.proofs.Hears.{told_shows}
 use Rattle.boxes.proofs.Found.{same_found}
+
+pub box_kept : {K : Type 0} → BoxKept K
+box_kept b =
+    let several = b.several in
+    let few = b.few in
+    let fallible = b.fallible in
+    let survived = b.survived in
+    (grind (arith, nat_tests), b.placed, b.within, b.present, b.sparse, b.ahead, b.due)
+
+pub listening_kept : {K : Type 0} → ListeningKept K
+listening_kept l = l.itself
 
 pub box_determined : {K : Type 0} → BoxDetermined K
 box_determined a b e = λ i. record {

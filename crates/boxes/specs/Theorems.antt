@@ -1,8 +1,10 @@
 -- What holds of every box, for every kind of proposal. Assumes nothing.
-use Rattle.std.specs.Prelude.{◌≡◌, ℕ, ◌≤◌, ⊤, Bool, true, List, [], ◌∷◌, ◌++◌, length, map, is_some, Some, Option, All, Contains}
+use Rattle.std.specs.Prelude.{◌≡◌, ℕ, ◌+◌, ◌^◌, ◌<◌, ◌≤◌, ⊤, Bool, true, false, List, [], ◌∷◌, ◌++◌, length, map, is_some, Some, Option, All, Contains}
 use Rattle.std.specs.Result.{result_map_both}
 use Rattle.numbers.specs.declared.refusal.Refusal.TheVariants as refusal
 use Rattle.numbers.specs.Refusals.{unless}
+use Rattle.sets.specs.Companies.{company}
+use Rattle.sets.specs.Tests.{count}
 use Rattle.sets.specs.Masks.{member, set_of}
 use Rattle.frames.specs.declared.frame.Frame.{Frame}
 use Rattle.frames.specs.Faults.{map_fault}
@@ -11,9 +13,25 @@ use Rattle.frames.specs.Theorems.{Fits}
 use Rattle.boxes.specs.declared.states.Notes.{Notes}
 use Rattle.boxes.specs.declared.states.Resting.{Resting}
 use Rattle.boxes.specs.declared.states.Listening.{Listening}
-use Rattle.boxes.specs.Boxes.{frame_of}
+use Rattle.boxes.specs.Boxes.{next_round, frame_of}
 use Rattle.boxes.specs.Rounds.{refused, open_notes, noted, hearing, closing}
 use Rattle.boxes.specs.Rule.{told_missing, first_heard, ruled, admits, heard_of, frames_in, notes_after}
+
+-- what every box keeps: its company is within the limits, its number is of the company, its missing set too, without itself and of at
+-- most t boxes, and its best horizon lies from its next round to t + 1
+abbrev pub BoxKept : Type 0 → Type 0
+BoxKept K = (b : Resting K)
+    → (company b.held.n b.held.t ≡ true)
+    × (b.held.number.0 < b.held.n)
+    × (b.held.missing.mask < 2 ^ b.held.n)
+    × (member b.held.missing b.held.number.0 ≡ false)
+    × (count (member b.held.missing) 32 ≤ b.held.t)
+    × ((next_round b.held).0 ≤ b.held.horizon.0)
+    × (b.held.horizon.0 ≤ b.held.t + 1)
+
+-- and a listening box has heard itself
+abbrev pub ListeningKept : Type 0 → Type 0
+ListeningKept K = (l : Listening K) → member l.notes.heard l.resting.held.number.0 ≡ true
 
 -- a box at rest is determined by the seven values that it holds, and a listening one by these and its notes
 abbrev pub BoxDetermined : Type 0 → Type 0

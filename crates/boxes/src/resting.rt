@@ -58,7 +58,8 @@ impl<K: Kind> Resting<K> {
     pub fn n(self) -> u32
         ensures { result ≡ self.held.n }
     {
-        self.held.n
+        let Held { n, .. } = self.held;
+        n
     }
 
     // How many of them may fall.
