@@ -234,6 +234,22 @@ fn the_best_horizon_stays(rt: HostRuntime) -> Result<(), Fail> {
     )
 }
 
+// Boxes 3 and 4 fall in round 1, heard by nobody. The horizons of the rounds run 4, 3, 4, and the best stays 3.
+#[test]
+fn an_earlier_horizon_counts(rt: HostRuntime) -> Result<(), Fail> {
+    let b = made(0, 5, 3, 30)?;
+    let b = rests(opened(b, &[*b"\x01\x01\x00\x14", *b"\x01\x02\x00\x28"])?)?;
+    holds(&rt, b, 1, 20, 0x18, 4);
+    let b = rests(opened(b, &[*b"\x02\x01\x18\x14", *b"\x02\x02\x18\x14"])?)?;
+    holds(&rt, b, 2, 20, 0x18, 3);
+    rings(
+        &rt,
+        opened(b, &[*b"\x03\x01\x18\x14", *b"\x03\x02\x18\x14"])?,
+        3,
+        20,
+    )
+}
+
 // Calls have two numbers, and the higher rank goes first.
 #[test]
 fn boxes_of_calls(rt: HostRuntime) -> Result<(), Fail> {
@@ -260,5 +276,14 @@ fn faults_as_text(rt: HostRuntime) -> Result<(), Fail> {
     assert!(rt; format!(in rt.alloc(); "{own}")?.as_str() == "6 off beat in round 1");
     let met = ear.hear(b"\x01\x01").err().ok_or("it was heard")?;
     assert!(rt; format!(in rt.alloc(); "{met}")?.as_str() == "1 short set 2 in round 1");
+    // In a later round, and of a tally.
+    let b = rests(opened(made(0, 2, 1, 30)?, &[*b"\x01\x01\x00\x14"])?)?;
+    let mut ear = b.open();
+    let own = ear.hear(b"\x02\x00\x00\x14").err().ok_or("it was heard")?;
+    assert!(rt; format!(in rt.alloc(); "{own}")?.as_str() == "7 heard in round 2");
+    ear.hear(b"\x02\x01\x00\x14")?;
+    let few = opened(made(0, 4, 1, 30)?, &[*b"\x01\x01\x00\x14"])?;
+    let (_, tally) = few.close().err().ok_or("it was closed")?;
+    assert!(rt; format!(in rt.alloc(); "{tally}")?.as_str() == "10 tally in round 1");
     Ok(())
 }

@@ -1,5 +1,5 @@
 -- What holds of every box, by the laws of the kind and of frames. Assumes nothing.
-use Rattle.std.proofs.Common.{◌≡◌, ℕ, ◌+◌, ◌^◌, ◌<◌, ◌≤◌, Bool, true, false, cond, not, ◌&&◌, eqb, leb, ◌⊎◌, List, [], ◌∷◌, map, Some, Ok, Err, Option, Result, refl, ap, ◌∙◌, subst, arith}
+use Rattle.std.proofs.Common.{◌≡◌, ℕ, ◌+◌, ◌^◌, ◌<◌, ◌≤◌, Bool, true, false, cond, not, ◌&&◌, ◌||◌, eqb, leb, ltb, ◌⊎◌, List, [], ◌∷◌, map, Some, Ok, Err, Option, Result, sym, refl, ap, ◌∙◌, subst, arith}
 use mathlib.Core.HLevel.{is_prop→PathP}
 use mathlib.Core.Bool.{Bool-set}
 use native.Mathlib.Bridge.{le_prop}
@@ -10,20 +10,23 @@ use Rattle.std.proofs.lemmas.Bool.Decides.{nat_tests}
 use Rattle.std.proofs.lemmas.List.Elements.{All-head, All-tail}
 use Rattle.numbers.specs.declared.refusal.Refusal.TheVariants as refusal
 use Rattle.numbers.specs.Refusals.{unless}
-use Rattle.sets.specs.Tests.{count}
+use Rattle.sets.specs.declared.labels.RoundNumber.{RoundNumber}
+use Rattle.sets.specs.declared.set.BoxSet.{BoxSet}
+use Rattle.sets.specs.Tests.{any, count}
 use Rattle.sets.specs.Masks.{member}
 use Rattle.sets.proofs.Bits.{bit_high}
 use Rattle.sets.proofs.Counts.{none_any}
-use Rattle.frames.specs.Faults.{and_then}
+use Rattle.frames.specs.Faults.{and_then, map_fault}
 use Rattle.frames.specs.Frames.{frame_bytes}
 use Rattle.frames.specs.Theorems.{Fits, FrameBack}
 use Rattle.boxes.specs.declared.states.Held.{Held}
 use Rattle.boxes.specs.declared.states.Notes.{Notes}
 use Rattle.boxes.specs.declared.states.Resting.{Resting}
-use Rattle.boxes.specs.Boxes.{frame_of}
-use Rattle.boxes.specs.Rounds.{open_notes, frame_refused, refused, bad_set, checked, noted, hearing}
+use Rattle.boxes.specs.Boxes.{next_round, frame_of}
+use Rattle.boxes.specs.Rounds.{Outcome, rests, rings, open_notes, frame_refused, refused, bad_set, checked, noted, hearing, best_horizon, advanced, unheard, closed_with, closing}
 use Rattle.boxes.specs.Rule.{from_sender, heard_of, frames_in, notes_after}
-use Rattle.boxes.specs.Theorems.{BoxKept, ListeningKept, BoxDetermined, ListeningDetermined, NotesShow, ClosesByRule, SentTold, ToldOn, OrderFree, ComposedHeard}
+use Rattle.boxes.specs.Theorems.{rung, BoxKept, ListeningKept, RingsWhen, BoxDetermined, ListeningDetermined, NotesShow, ClosesByRule, SentTold, ToldOn, OrderFree, ComposedHeard}
+use Rattle.boxes.proofs.Members.{inside_counts}
 use Rattle.boxes.proofs.Sent.{frame_fits}
 use Rattle.boxes.proofs.Shown.{Shows, shown_closes, shown_same}
 use Rattle.boxes.proofs.Hears.{told_shows}
@@ -39,6 +42,34 @@ box_kept b =
 
 pub listening_kept : {K : Type 0} → ListeningKept K
 listening_kept l = l.itself
+
+rung_by : {K : Type 0} (t : Bool) (round : RoundNumber) (x : K) (b : Held K) → rung (cond t (rings round x) (rests b)) ≡ t
+rung_by true round x b = refl
+rung_by false round x b = refl
+
+pub rings_when : {K : Type 0} → RingsWhen K
+unfolding closing closed_with
+rings_when {K} b m o e = by (tally b.held) refl e
+  where
+    N : BoxSet
+    N = unheard b.held m
+
+    tally : Held K → Bool
+    tally h = ltb h.t (count (member N) 32) || any (λ i. member m.known i && not (member N i)) 32
+
+    end : Outcome K
+    end = cond (eqb (best_horizon b.held m.known) (b.held.closed + 1)) (rings (next_round b.held) m.foremost) (rests (advanced b.held N m.known m.foremost))
+
+    by : (z : Bool) → tally b.held ≡ z → map_fault (refused b.held) (unless ((z, refusal.Tally) ∷ []) end) ≡ Ok o
+        → rung o ≡ (eqb b.held.horizon.0 (b.held.closed + 1) || eqb (count (member m.known) 32) b.held.t)
+    by true z e = absurd cc
+    by false z e =
+        let same : end ≡ o = cc in
+        let inside = inside_counts m.known N (grind arith) in
+        let few : count (member N) 32 ≤ b.held.t = grind (arith, nat_tests) in
+        let known : count (member m.known) 32 ≤ b.held.t = omega (arith, inside, few) in
+        let ahead = b.ahead in
+        ap rung (sym same) ∙ rung_by _ _ _ _ ∙ grind (arith, nat_tests)
 
 pub box_determined : {K : Type 0} → BoxDetermined K
 box_determined a b e = λ i. record {

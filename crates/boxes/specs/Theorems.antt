@@ -1,5 +1,5 @@
 -- What holds of every box, for every kind of proposal. Assumes nothing.
-use Rattle.std.specs.Prelude.{◌≡◌, ℕ, ◌+◌, ◌^◌, ◌<◌, ◌≤◌, ⊤, Bool, true, false, List, [], ◌∷◌, ◌++◌, length, map, is_some, Some, Option, All, Contains}
+use Rattle.std.specs.Prelude.{◌≡◌, ℕ, ◌+◌, ◌^◌, ◌<◌, ◌≤◌, ◌==◌, ◌||◌, ⊤, Ok, Bool, true, false, List, [], ◌∷◌, ◌++◌, length, map, is_some, Some, Option, All, Contains}
 use Rattle.std.specs.Result.{result_map_both}
 use Rattle.numbers.specs.declared.refusal.Refusal.TheVariants as refusal
 use Rattle.numbers.specs.Refusals.{unless}
@@ -14,7 +14,7 @@ use Rattle.boxes.specs.declared.states.Notes.{Notes}
 use Rattle.boxes.specs.declared.states.Resting.{Resting}
 use Rattle.boxes.specs.declared.states.Listening.{Listening}
 use Rattle.boxes.specs.Boxes.{next_round, frame_of}
-use Rattle.boxes.specs.Rounds.{refused, open_notes, noted, hearing, closing}
+use Rattle.boxes.specs.Rounds.{Outcome, rests, rings, refused, open_notes, noted, hearing, closing}
 use Rattle.boxes.specs.Rule.{told_missing, first_heard, ruled, admits, heard_of, frames_in, notes_after}
 
 -- what every box keeps: its company is within the limits, its number is of the company, its missing set too, without itself and of at
@@ -39,6 +39,16 @@ BoxDetermined K = (a b : Resting K) → a.held ≡ b.held → a ≡ b
 
 abbrev pub ListeningDetermined : Type 0 → Type 0
 ListeningDetermined K = (a b : Listening K) → a.resting.held ≡ b.resting.held → a.notes ≡ b.notes → a ≡ b
+
+-- whether the outcome is that it rings
+abbrev pub rung : {K : Type 0} → Outcome K → Bool
+rung (rests b) = false
+rung (rings round proposal) = true
+
+-- a box that closes a round rings in it just if that round was its best horizon already, or it knows as many boxes missing as may fall
+abbrev pub RingsWhen : Type 0 → Type 0
+RingsWhen K = (b : Resting K) (m : Notes K) (o : Outcome K) → closing b.held m ≡ Ok o
+    → rung o ≡ (b.held.horizon.0 == (next_round b.held).0 || count (member m.known) 32 == b.held.t)
 
 -- what a box sends has 1 to 24 bytes
 abbrev pub FrameShort : {K : Type 0} → (K → List ℕ) → Type 0

@@ -1,6 +1,6 @@
 use Rattle.std.proofs.Common.{arith}
 use Rattle.boxes.proofs.Sent.{frame_short}
-use Rattle.boxes.proofs.Laws.{box_kept, listening_kept, box_determined, listening_determined, notes_show, closes_by_rule, sent_told, told_more, order_free, composed_heard}
+use Rattle.boxes.proofs.Laws.{box_kept, listening_kept, rings_when, box_determined, listening_determined, notes_show, closes_by_rule, sent_told, told_more, order_free, composed_heard}
 use Rattle.boxes.proofs.theorems.boxes_stand.Goals as goal
 
 pub returns : goal.returns
@@ -12,6 +12,7 @@ returns g c =
       zero = omega arith;
       kept = box_kept;
       itself = listening_kept;
+      rings = rings_when;
       determined = box_determined;
       listening = listening_determined;
       short = λ b. frame_short b k.SIZE k.image k.named m.sized.1 frames.len;
