@@ -218,36 +218,30 @@ fn missing_in_this_round_and_told(rt: HostRuntime) -> Result<(), Fail> {
     rings(&rt, opened(other, &[*b"\x02\x00\x0c\x14"])?, 2, 10)
 }
 
-// Box 2 falls in round 1, heard by nobody. The horizons of the rounds run 3, 3, 4, and the best stays 3.
-#[test]
-fn the_best_horizon_stays(rt: HostRuntime) -> Result<(), Fail> {
-    let b = made(0, 4, 2, 30)?;
-    let b = rests(opened(b, &[*b"\x01\x01\x00\x14", *b"\x01\x03\x00\x28"])?)?;
-    holds(&rt, b, 1, 20, 0x04, 3);
-    let b = rests(opened(b, &[*b"\x02\x03\x04\x14", *b"\x02\x01\x04\x14"])?)?;
-    holds(&rt, b, 2, 20, 0x04, 3);
-    rings(
-        &rt,
-        opened(b, &[*b"\x03\x01\x04\x14", *b"\x03\x03\x04\x14"])?,
-        3,
-        20,
-    )
+// Box 0, box 1 and another hear each other in three rounds; the boxes missing fall in round 1, heard by nobody. After the horizon of
+// round 1 that of round 2 is 3 and that of round 3 is 4, and box 0 rings in 3, by the earlier one.
+fn rings_in_3(
+    rt: &impl Abort,
+    b: Resting<Piece>,
+    other: u8,
+    missing: u8,
+    horizon: u32,
+) -> Result<(), Fail> {
+    let mask = u32::from(missing);
+    let b = rests(opened(b, &[[1, 1, 0, 0x14], [1, other, 0, 0x28]])?)?;
+    holds(rt, b, 1, 20, mask, horizon);
+    let b = rests(opened(b, &[[2, 1, missing, 0x14], [2, other, missing, 0x14]])?)?;
+    holds(rt, b, 2, 20, mask, 3);
+    let ear = opened(b, &[[3, 1, missing, 0x14], [3, other, missing, 0x14]])?;
+    rings(rt, ear, 3, 20)
 }
 
-// Boxes 3 and 4 fall in round 1, heard by nobody. The horizons of the rounds run 4, 3, 4, and the best stays 3.
 #[test]
 fn an_earlier_horizon_counts(rt: HostRuntime) -> Result<(), Fail> {
-    let b = made(0, 5, 3, 30)?;
-    let b = rests(opened(b, &[*b"\x01\x01\x00\x14", *b"\x01\x02\x00\x28"])?)?;
-    holds(&rt, b, 1, 20, 0x18, 4);
-    let b = rests(opened(b, &[*b"\x02\x01\x18\x14", *b"\x02\x02\x18\x14"])?)?;
-    holds(&rt, b, 2, 20, 0x18, 3);
-    rings(
-        &rt,
-        opened(b, &[*b"\x03\x01\x18\x14", *b"\x03\x02\x18\x14"])?,
-        3,
-        20,
-    )
+    // Box 2 of four falls: the first horizon is 3 already.
+    rings_in_3(&rt, made(0, 4, 2, 30)?, 3, 0x04, 3)?;
+    // Boxes 3 and 4 of five fall: it is 4, as for a new box.
+    rings_in_3(&rt, made(0, 5, 3, 30)?, 2, 0x18, 4)
 }
 
 // Calls have two numbers, and the higher rank goes first.

@@ -108,23 +108,23 @@ sent_set a b n =
     let own = a.present in
     grind arith
 
-module _ {K : Type 0} (size : ℕ) (image : K → List ℕ) (named : List ℕ → Option K) (leads : K → K → Bool) where
-  pub sent_told : FrameBack size image named → SentTold size image named leads
-  unfolding frames_in
-  sent_told back [] fit = refl
-  sent_told back (f ∷ more) fit =
-      let here = back f (All-head Fits f more fit) in
-      let rest = sent_told back more (All-tail Fits f more fit) in
-      ap (λ r. cons_option (result_ok r) (frames_in size named (map (frame_bytes image) more))) here ∙ ap (λ fs. f ∷ fs) rest
+pub sent_told : {K : Type 0} (size : ℕ) (image : K → List ℕ) (named : List ℕ → Option K) → FrameBack size image named → SentTold size image named
+unfolding frames_in
+sent_told size image named back [] fit = refl
+sent_told size image named back (f ∷ more) fit =
+    let here = back f (All-head Fits f more fit) in
+    let rest = sent_told size image named back more (All-tail Fits f more fit) in
+    ap (λ r. cons_option (result_ok r) (frames_in size named (map (frame_bytes image) more))) here ∙ ap (λ fs. f ∷ fs) rest
 
-  pub told_more : ToldOn size image named leads
+module _ {K : Type 0} (size : ℕ) (named : List ℕ → Option K) (leads : K → K → Bool) where
+  pub told_more : ToldOn size named leads
   unfolding notes_after
   told_more b m [] more = refl
   told_more b m (bytes ∷ told) more = told_more b (result_unwrap_or (hearing leads size named b.held m bytes) m) told more
 
-  pub composed_heard : FrameBack size image named → ComposedHeard size image named leads
+  pub composed_heard : (image : K → List ℕ) → FrameBack size image named → ComposedHeard size named leads image
   unfolding hearing checked
-  composed_heard back a b m n closed =
+  composed_heard image back a b m n closed =
       let f = frame_of a.held in
       let beat : eqb (a.held.closed + 1) (b.held.closed + 1) ≡ true = eq-eqb _ _ (ap (λ k. k + 1) closed) in
       let known : leb b.held.n a.held.number.0 ≡ false = lt-leb b.held.n a.held.number.0 (omega (arith, a.placed)) in
@@ -140,13 +140,13 @@ module _ {K : Type 0} (size : ℕ) (image : K → List ℕ) (named : List ℕ �
     shows : (b : Resting K) (told : List (List ℕ)) → Shows leads b (notes_after size named leads b.held (open_notes b.held) told) (heard_of b.held (frames_in size named told))
     shows b told = told_shows leads total transitive antisymmetric b size named told
 
-    pub notes_show : NotesShow size image named leads
+    pub notes_show : NotesShow size named leads
     notes_show b told = let s = shows b told in (s.heard, s.known, s.first)
 
-    pub closes_by_rule : ClosesByRule size image named leads
+    pub closes_by_rule : ClosesByRule size named leads
     closes_by_rule b told = shown_closes leads total transitive antisymmetric b _ _ (shows b told)
 
-    pub order_free : OrderFree size image named leads
+    pub order_free : OrderFree size named leads
     unfolding heard_of
     order_free b told again same one =
         let p = b.held.number.0 in

@@ -54,7 +54,11 @@ RingsWhen K = (b : Resting K) (m : Notes K) (o : Outcome K) → closing b.held m
 abbrev pub FrameShort : {K : Type 0} → (K → List ℕ) → Type 0
 FrameShort {K} image = (b : Resting K) → (1 ≤ length (frame_bytes image (frame_of b.held))) × (length (frame_bytes image (frame_of b.held)) ≤ longest_frame)
 
-module _ {K : Type 0} (size : ℕ) (image : K → List ℕ) (named : List ℕ → Option K) (leads : K → K → Bool) where
+-- frames that were sent are the frames among what is told
+abbrev pub SentTold : {K : Type 0} → ℕ → (K → List ℕ) → (List ℕ → Option K) → Type 0
+SentTold {K} size image named = (sent : List (Frame K)) → All Fits sent → frames_in size named (map (frame_bytes image) sent) ≡ sent
+
+module _ {K : Type 0} (size : ℕ) (named : List ℕ → Option K) (leads : K → K → Bool) where
   -- whatever was told to a box in a round, its notes are of the frames heard: from whom, whom they tell missing, which estimate goes first
   abbrev pub NotesShow : Type 0
   NotesShow = (b : Resting K) (told : List (List ℕ))
@@ -67,10 +71,6 @@ module _ {K : Type 0} (size : ℕ) (image : K → List ℕ) (named : List ℕ �
   ClosesByRule = (b : Resting K) (told : List (List ℕ))
       → closing b.held (notes_after size named leads b.held (open_notes b.held) told)
       ≡ map_fault (refused b.held) (ruled leads b.held (heard_of b.held (frames_in size named told)))
-
-  -- frames that were sent are the frames among what is told
-  abbrev pub SentTold : Type 0
-  SentTold = (sent : List (Frame K)) → All Fits sent → frames_in size named (map (frame_bytes image) sent) ≡ sent
 
   -- to be told some bytes and then others is to be told them all
   abbrev pub ToldOn : Type 0
@@ -89,8 +89,8 @@ module _ {K : Type 0} (size : ℕ) (image : K → List ℕ) (named : List ℕ �
 
   -- what a box composes, another of its company in the same round notes as that frame, unless it has heard the sender, misses it
   -- or is told missing itself
-  abbrev pub ComposedHeard : Type 0
-  ComposedHeard = (a b : Resting K) (m : Notes K) → a.held.n ≡ b.held.n → a.held.closed ≡ b.held.closed
+  abbrev pub ComposedHeard : (K → List ℕ) → Type 0
+  ComposedHeard image = (a b : Resting K) (m : Notes K) → a.held.n ≡ b.held.n → a.held.closed ≡ b.held.closed
       → hearing leads size named b.held m (frame_bytes image (frame_of a.held))
       ≡ result_map_both {T = ⊤} (λ _. noted leads m (frame_of a.held)) (refused b.held)
       (unless

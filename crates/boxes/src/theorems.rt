@@ -17,12 +17,12 @@ pub fn boxes_stand<K: Kind>() -> u8
     ensures determined { BoxDetermined K }
     ensures listening { ListeningDetermined K }
     ensures short { FrameShort K.image }
-    ensures show { NotesShow K.SIZE K.image K.named K.leads }
-    ensures closes { ClosesByRule K.SIZE K.image K.named K.leads }
-    ensures sent { SentTold K.SIZE K.image K.named K.leads }
-    ensures more { ToldOn K.SIZE K.image K.named K.leads }
-    ensures order { OrderFree K.SIZE K.image K.named K.leads }
-    ensures agree { ComposedHeard K.SIZE K.image K.named K.leads }
+    ensures show { NotesShow K.SIZE K.named K.leads }
+    ensures closes { ClosesByRule K.SIZE K.named K.leads }
+    ensures sent { SentTold K.SIZE K.image K.named }
+    ensures more { ToldOn K.SIZE K.named K.leads }
+    ensures order { OrderFree K.SIZE K.named K.leads }
+    ensures agree { ComposedHeard K.SIZE K.named K.leads K.image }
 {
     let _ = frames_stand::<K>();
     0

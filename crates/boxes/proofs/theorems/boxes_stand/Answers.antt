@@ -16,10 +16,10 @@ returns g c =
       determined = box_determined;
       listening = listening_determined;
       short = λ b. frame_short b k.SIZE k.image k.named m.sized.1 frames.len;
-      show = notes_show k.SIZE k.image k.named k.leads m.total m.transitive m.antisymmetric;
-      closes = closes_by_rule k.SIZE k.image k.named k.leads m.total m.transitive m.antisymmetric;
-      sent = sent_told k.SIZE k.image k.named k.leads frames.back;
-      more = told_more k.SIZE k.image k.named k.leads;
-      order = order_free k.SIZE k.image k.named k.leads m.total m.transitive m.antisymmetric;
-      agree = composed_heard k.SIZE k.image k.named k.leads frames.back;
+      show = notes_show k.SIZE k.named k.leads m.total m.transitive m.antisymmetric;
+      closes = closes_by_rule k.SIZE k.named k.leads m.total m.transitive m.antisymmetric;
+      sent = sent_told k.SIZE k.image k.named frames.back;
+      more = told_more k.SIZE k.named k.leads;
+      order = order_free k.SIZE k.named k.leads m.total m.transitive m.antisymmetric;
+      agree = composed_heard k.SIZE k.named k.leads k.image frames.back;
     }

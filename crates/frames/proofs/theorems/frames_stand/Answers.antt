@@ -8,6 +8,7 @@ returns g c =
     let m = g.met.K.Kind in
     record {
       zero = refl;
+      room = refl;
       back = frame_back k.SIZE k.image k.named m.long m.small m.back;
       only = frame_only k.SIZE k.image k.named m.only;
       number = frame_number k.SIZE k.image k.named;
