@@ -1,4 +1,4 @@
-use Rattle.std.proofs.Common.{refl}
+use Rattle.std.proofs.Common.{refl, arith}
 use Rattle.frames.proofs.Trips.{frame_back, frame_only, frame_number, frame_image, frame_surplus, frame_length}
 use Rattle.frames.proofs.theorems.frames_stand.Goals as goal
 
@@ -8,7 +8,7 @@ returns g c =
     let m = g.met.K.Kind in
     record {
       zero = refl;
-      room = refl;
+      room = omega arith;
       back = frame_back k.SIZE k.image k.named m.long m.small m.back;
       only = frame_only k.SIZE k.image k.named m.only;
       number = frame_number k.SIZE k.image k.named;
