@@ -16,7 +16,7 @@ use Rattle.boxes.specs.declared.states.Resting.{Resting}
 use Rattle.boxes.specs.Boxes.{frame_of}
 use Rattle.boxes.specs.Rounds.{open_notes, frame_refused, refused, faults, checked, noted, hearing}
 use Rattle.boxes.specs.Rule.{Heard, admits, from_sender, heard_of, frames_in, notes_after}
-use Rattle.boxes.proofs.Members.{member_is}
+use Rattle.sets.proofs.Members.{member_is}
 use Rattle.boxes.proofs.Faulted.{any_fault, unless_some, unless_none}
 use Rattle.boxes.proofs.Shown.{Shows, plus, alone, opens, goes_on, or_some}
 

@@ -26,7 +26,7 @@ use Rattle.boxes.specs.Boxes.{next_round, frame_of}
 use Rattle.boxes.specs.Rounds.{Outcome, rests, rings, open_notes, frame_refused, refused, bad_set, checked, noted, hearing, best_horizon, advanced, unheard, closed_with, closing}
 use Rattle.boxes.specs.Rule.{from_sender, heard_of, frames_in, notes_after}
 use Rattle.boxes.specs.Theorems.{rung, BoxKept, ListeningKept, RingsWhen, BoxDetermined, ListeningDetermined, NotesShow, ClosesByRule, SentTold, ToldOn, OrderFree, ComposedHeard}
-use Rattle.boxes.proofs.Members.{inside_counts}
+use Rattle.sets.proofs.Members.{inside_counts}
 use Rattle.boxes.proofs.Sent.{frame_fits}
 use Rattle.boxes.proofs.Shown.{Shows, shown_closes, shown_same}
 use Rattle.boxes.proofs.Hears.{told_shows}

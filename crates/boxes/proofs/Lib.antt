@@ -1,4 +1,4 @@
-pub mod Members
+pub mod Unheard
 pub mod Sent
 pub mod Faulted
 pub mod Shown

@@ -17,7 +17,7 @@ use Rattle.boxes.specs.Rounds.{open_notes, noted, unheard, refused, closed_with,
 use Rattle.boxes.specs.Rule as rule
 use Rattle.boxes.specs.Rule.{Heard, estimate_in, not_heard, told_missing, first_heard, ruled}
 use Rattle.sets.proofs.Bits.{set_ext}
-use Rattle.boxes.proofs.Members.{member_is}
+use Rattle.sets.proofs.Members.{member_is}
 use Rattle.boxes.proofs.Sent.{mask_fits}
 
 -- frames heard, and one more from a box not heard before

@@ -1,5 +1,6 @@
 use Rattle.std.proofs.Common.{◌≡◌, ◌+◌, ◌≤◌, ap, arith}
-use Rattle.boxes.proofs.Members.{inside_counts, unheard_below, unheard_own}
+use Rattle.sets.proofs.Members.{inside_counts}
+use Rattle.boxes.proofs.Unheard.{unheard_below, unheard_own}
 use Rattle.boxes.proofs.states.Listening.close.Given as given
 use Rattle.boxes.proofs.states.Listening.close.Goals as goal
 use Rattle.boxes.proofs.states.Listening.close.Goals.{After-count-2}

@@ -1,12 +1,10 @@
--- Sets that a box makes, by their members. Assumes nothing.
-use Rattle.std.proofs.Common.{◌≡◌, ℕ, ◌^◌, ◌<◌, ◌≤◌, Bool, true, false, not, ◌&&◌, ltb, refl, ap, ◌∙◌, arith}
+-- Members of sets that tests make. Assumes nothing.
+use Rattle.std.proofs.Common.{◌≡◌, ℕ, ◌^◌, ◌<◌, ◌≤◌, Bool, true, false, not, ◌&&◌, leb, refl, ap, ◌∙◌, lt_of_lt_of_le, pow_mono, arith}
 use Rattle.std.proofs.lemmas.Bool.Decides.{nat_tests}
 use Rattle.sets.specs.declared.set.BoxSet.{BoxSet}
 use Rattle.sets.specs.Tests.{any, count}
 use Rattle.sets.specs.Masks.{member, set_of}
-use Rattle.boxes.specs.declared.states.Listening.{Listening}
-use Rattle.boxes.specs.Rounds.{unheard}
-use Rattle.sets.proofs.Bits.{bit-mask_of, mask_below}
+use Rattle.sets.proofs.Bits.{bit_high, bit-mask_of, mask_below, set_is}
 use Rattle.sets.proofs.Counts.{any_none, count_ext, count_le, count_none}
 
 -- whether a number below 32 is in the set that a test makes
@@ -31,15 +29,14 @@ module _ (s : BoxSet) (empty : s ≡ set_of (λ _. false)) where
 pub inside_counts : (a b : BoxSet) → any (λ i. member a i && not (member b i)) 32 ≡ false → count (member a) 32 ≤ count (member b) 32
 inside_counts a b e = count_le (member a) (member b) 32 (λ k l m. let n = any_none (λ i. member a i && not (member b i)) 32 e k l in grind arith)
 
--- the boxes that a listening box has not heard: all below n, and it is none of them
-module _ {K : Type 0} (l : Listening K) (s : BoxSet) (is : s ≡ unheard l.resting.held l.notes) where
-  pub unheard_below : s.mask < 2 ^ l.resting.held.n
-  unheard_below =
-      (mask_below l.resting.held.n s.mask).1 (λ i m.
-      member_only (λ k. ltb k l.resting.held.n && not (member l.notes.heard k)) (λ k. ltb k l.resting.held.n) s is (λ k e. grind arith) i (grind (arith, nat_tests)))
+-- a set within a company of at most 32 boxes is the set of those that pass a test which its members alone pass
+pub set_kept : (n : ℕ) (s : BoxSet) (P : ℕ → Bool) → n ≤ 32 → s.mask < 2 ^ n → ((i : ℕ) → member s i ≡ P i) → s ≡ set_of P
+set_kept n s P few h e = set_is P s.mask (lt_of_lt_of_le h (pow_mono few)) (λ i _. e i)
 
-  pub unheard_own : member s l.resting.held.number.0 ≡ false
-  unheard_own =
-      let h = l.itself in
-      let m = member_is (λ k. ltb k l.resting.held.n && not (member l.notes.heard k)) s is l.resting.held.number.0 (omega (arith, l.resting.placed, l.resting.few)) in
-      grind arith
+-- a set that has no box from n on is within a company of n
+pub none_beyond : (n : ℕ) (s : BoxSet) → s.mask < 2 ^ 32 → any (λ i. member s i && leb n i) 32 ≡ false → s.mask < 2 ^ n
+none_beyond n s h e =
+    (mask_below n s.mask).1 (λ i l.
+    let f = any_none (λ k. member s k && leb n k) 32 e i in
+    let b = bit_high 32 s.mask i h in
+    grind (arith, nat_tests))

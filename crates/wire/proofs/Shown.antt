@@ -1,0 +1,95 @@
+-- What a roster shows, and what a change of it makes of that. Assumes nothing.
+use Rattle.std.proofs.Common.{◌≡◌, ℕ, ◌^◌, ◌<◌, ◌≤◌, Bool, true, false, cond, not, ◌&&◌, ◌||◌, eqb, ltb, List, length, get_or, set, is_some, Some, None, Option, sym, refl, ap, subst, ◌∙◌, ◌⊎◌, inl, inr, arith}
+use Rattle.std.proofs.lemmas.Bool.{cases_Bool, eqb-true}
+use Rattle.std.proofs.lemmas.Bool.Decides.{nat_tests}
+use Rattle.std.proofs.lemmas.List.{get_or-set_same, get_or-set_other}
+use Rattle.sets.specs.declared.set.BoxSet.{BoxSet}
+use Rattle.sets.specs.Masks.{member, set_of}
+use Rattle.sets.proofs.Bits.{bit_high, bit-mask_of, mask_below, set_ext}
+use Rattle.sets.proofs.Members.{member_only, none_member, set_kept}
+use Rattle.wire.specs.declared.roster.Roster.{Roster}
+use Rattle.wire.specs.Kept.{set_at, Loses}
+use Rattle.wire.specs.Meaning.{Meaning, falling_set, posted_set, opened, closed}
+use Rattle.wire.specs.Rosters.{some_if, shown}
+
+-- meanings with the same parts are the same
+pub meaning_ext : (a b : Meaning) → a.n ≡ b.n → a.up ≡ b.up → ((q : ℕ) → a.lost q ≡ b.lost q) → ((q : ℕ) → a.posted q ≡ b.posted q) → a ≡ b
+meaning_ext a b n up lost posted = λ i. record { n = n i; up = up i; lost = λ q. lost q i; posted = λ q. posted q i }
+
+pub is_some_if : {X : Type 0} (b : Bool) (x : X) → is_some (some_if b x) ≡ b
+is_some_if true x = refl
+is_some_if false x = refl
+
+-- where a set is empty there is nothing
+pub none_if : {X : Type 0} (s : BoxSet) → s ≡ set_of (λ _. false) → (q : ℕ) (x : X) → some_if (member s q) x ≡ None
+none_if s e q x = ap (λ b. some_if b x) (none_member s e q)
+
+pub none_is : {A : Type 0} (s : BoxSet) → s ≡ set_of (λ _. false) → (q : ℕ) → member s q ≡ true → A
+none_is s e q t = let f = none_member s e q in absurd (grind arith)
+
+-- a set in place of another in a list
+pub set_at-set : (sets : List BoxSet) (q : ℕ) (s : BoxSet) → q < length sets → (set_at (set sets q s) q ≡ s) × ((i : ℕ) → eqb i q ≡ false → set_at (set sets q s) i ≡ set_at sets i)
+set_at-set sets q s l = (get_or-set_same sets q s _ l, λ i e. get_or-set_other sets q i s _ (λ k. grind (arith, nat_tests)))
+
+-- where box q enters a set
+module _ (n q : ℕ) (s t : BoxSet) (few : n ≤ 32) (h : s.mask < 2 ^ n) (l : q < n) (e : t ≡ set_of (λ i. member s i || eqb i q)) where
+  pub entering : (i : ℕ) → member t i ≡ (member s i || eqb i q)
+  entering i =
+      let m = bit-mask_of (λ k. member s k || eqb k q) 32 i in
+      let r : member t i ≡ member (set_of (λ k. member s k || eqb k q)) i = ap (λ z. member z i) e in
+      let b = bit_high n s.mask i h in
+      grind (arith, nat_tests)
+
+  pub entered_within : t.mask < 2 ^ n
+  entered_within = (mask_below n t.mask).1 (λ i m. let b = bit_high n s.mask i h m in let r = entering i in grind (arith, nat_tests))
+
+  -- and what is said of it is x, then that is what is there for it, and for the others what was there
+  pub entered : {X : Type 0} (f g : ℕ → X) (x : X) → g q ≡ x → ((i : ℕ) → eqb i q ≡ false → g i ≡ f i)
+      → (i : ℕ) → some_if (member t i) (g i) ≡ cond (eqb i q) (Some x) (some_if (member s i) (f i))
+  entered {X} f g x now before i = go (cases_Bool (eqb i q)) (entering i)
+    where
+      go : (eqb i q ≡ true) ⊎ (eqb i q ≡ false) → member t i ≡ (member s i || eqb i q) → some_if (member t i) (g i) ≡ cond (eqb i q) (Some x) (some_if (member s i) (f i))
+      go (inl y) k = let here : g i ≡ g q = ap g (eqb-true i q y) in grind (arith, now)
+      go (inr y) k = let b = before i y in grind arith
+
+  -- what is kept of each box that is falling, where q falls
+  pub losing_more : (up : BoxSet) (sets : List BoxSet) (x : BoxSet) → q < length sets
+      → Loses n up q x → ((i : ℕ) → member s i ≡ true → Loses n up i (set_at sets i))
+      → (i : ℕ) → member t i ≡ true → Loses n up i (set_at (set sets q x) i)
+  losing_more up sets x k new old i m = go (cases_Bool (eqb i q)) (entering i) (set_at-set sets q x k)
+    where
+      go : (eqb i q ≡ true) ⊎ (eqb i q ≡ false) → member t i ≡ (member s i || eqb i q)
+          → (set_at (set sets q x) q ≡ x) × ((j : ℕ) → eqb j q ≡ false → set_at (set sets q x) j ≡ set_at sets j)
+          → Loses n up i (set_at (set sets q x) i)
+      go (inl y) b at = subst (λ j. Loses n up j (set_at (set sets q x) j)) (sym (eqb-true i q y)) (subst (Loses n up q) (sym at.0) new)
+      go (inr y) b at = subst (Loses n up i) (sym (at.1 i y)) (old i (grind arith))
+
+-- all of a company are of it
+pub all_within : (n : ℕ) (s : BoxSet) → s ≡ set_of (λ i. ltb i n) → s.mask < 2 ^ n
+all_within n s e = (mask_below n s.mask).1 (λ i l. member_only (λ k. ltb k n) (λ k. ltb k n) s e (λ k t. t) i (grind (arith, nat_tests)))
+
+module _ (r : Roster) where
+  -- only boxes of the company are falling
+  pub falling_within : r.falling.mask < 2 ^ r.n
+  falling_within =
+      (mask_below r.n r.falling.mask).1 (λ i l.
+      let h = bit_high r.n r.up.mask i r.up_within l in
+      let f : member r.falling i ≡ true → member r.up i ≡ true = λ t. (r.losing i t).0 in
+      grind arith)
+
+  -- and of those that stay up
+  pub staying_within : (s : BoxSet) → s ≡ set_of (λ i. member r.up i && not (member r.falling i)) → s.mask < 2 ^ r.n
+  staying_within s e =
+      (mask_below r.n s.mask).1 (λ i l.
+      member_only (λ k. member r.up k && not (member r.falling k)) (member r.up) s e (λ k t. grind arith) i (bit_high r.n r.up.mask i r.up_within l))
+
+  module _ (frames : ℕ → List ℕ) where
+    pub falling_shown : r.falling ≡ falling_set (shown r frames)
+    falling_shown = set_kept r.n r.falling _ r.few falling_within (λ i. sym (is_some_if (member r.falling i) _))
+
+    pub posted_shown : r.posted ≡ posted_set (shown r frames)
+    posted_shown = set_kept r.n r.posted _ r.few r.posted_within (λ i. sym (is_some_if (member r.posted i) _))
+
+    -- the boxes up that are not falling
+    pub up_shown : set_of (λ i. member r.up i && not (member r.falling i)) ≡ (closed (shown r frames)).up
+    up_shown = set_ext _ _ (λ i _. ap (λ b. member r.up i && not b) (sym (is_some_if (member r.falling i) _)))

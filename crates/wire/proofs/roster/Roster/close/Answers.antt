@@ -1,0 +1,16 @@
+use Rattle.std.proofs.Common.{◌∙◌, refl}
+use Rattle.wire.proofs.Shown.{meaning_ext, none_if, none_is, staying_within, up_shown}
+use Rattle.wire.proofs.roster.Roster.close.Goals as goal
+
+pub returns : goal.returns
+returns c = λ frames.
+    meaning_ext _ _ refl
+    (c.difference-self.ensures ∙ up_shown c.args.self.now frames)
+    (λ q. none_if c.empty-self.result c.empty-self.ensures q _)
+    (λ _. refl)
+
+pub invariant_of-self-clause-up_within : goal.invariant_of-self-clause-up_within
+invariant_of-self-clause-up_within c = staying_within c.args.self.now c.difference-self.result c.difference-self.ensures
+
+pub invariant_of-self-clause-losing : goal.invariant_of-self-clause-losing
+invariant_of-self-clause-losing c = λ q t. none_is c.empty-self.result c.empty-self.ensures q t

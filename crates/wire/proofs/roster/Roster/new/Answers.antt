@@ -1,0 +1,21 @@
+use Rattle.std.proofs.Common.{◌≡◌, true, Ok, ap, refl, arith}
+use Rattle.sets.specs.Companies.{company_size}
+use Rattle.sets.proofs.Members.{none_below}
+use Rattle.wire.specs.Meaning.{making}
+use Rattle.wire.proofs.Shown.{meaning_ext, none_if, none_is, all_within}
+use Rattle.wire.proofs.roster.Roster.new.Goals as goal
+
+pub invariant_of-result-clause-up_within : goal.invariant_of-result-clause-up_within
+invariant_of-result-clause-up_within c = all_within c.args.n c.all_below.result c.all_below.ensures
+
+pub invariant_of-result-clause-losing : goal.invariant_of-result-clause-losing
+invariant_of-result-clause-losing c = λ q t. none_is c.empty.result c.empty.ensures q t
+
+pub invariant_of-result-clause-posted_within : goal.invariant_of-result-clause-posted_within
+invariant_of-result-clause-posted_within c = none_below c.empty-3.result c.empty-3.ensures _
+
+pub returns : goal.returns
+unfolding making
+returns c = λ frames.
+    let sized : company_size c.args.n ≡ true = grind arith in
+    rw sized (ap Ok (meaning_ext _ _ refl c.all_below.ensures (λ q. none_if c.empty.result c.empty.ensures q _) (λ q. none_if c.empty-3.result c.empty-3.ensures q _)))

@@ -1,0 +1,3 @@
+pub mod Kept
+pub mod Meaning
+pub mod Rosters

@@ -1,0 +1,126 @@
+-- What a wire means, and what each call makes of it. Assumes nothing.
+use Rattle.std.specs.Prelude.{◌≡◌, ℕ, ◌+◌, ◌^◌, ◌<◌, ◌≤◌, Bool, true, false, cond, not, ◌&&◌, ◌||◌, ⊤, List, [], ◌∷◌, ◌++◌, length, drop, is_some, Some, None, Option, unwrap_or, option_map, Ok, Err, Result, ◌==◌, nat_le, nat_lt}
+use Rattle.std.specs.Result.{result_map_both, result_unwrap_or}
+use Rattle.numbers.specs.declared.refusal.Refusal.{Refusal}
+use Rattle.numbers.specs.declared.refusal.Refusal.TheVariants as refusal
+use Rattle.numbers.specs.Refusals.{unless}
+use Rattle.sets.specs.declared.set.BoxSet.{BoxSet}
+use Rattle.sets.specs.Companies.{company_size}
+use Rattle.sets.specs.Tests.{any}
+use Rattle.sets.specs.Masks.{member, set_of}
+use Rattle.frames.specs.Frames.{longest_frame}
+use Rattle.wire.specs.Kept.{Loses, Postable}
+
+-- what a wire is at some moment: how many boxes it joins, which are up, what each box that is falling loses (the boxes that do not hear
+-- what it sends), and the bytes that each box has posted. A box that is not falling, or has not posted, has none
+pub record Meaning : Type 0 where
+  pub n : ℕ
+  pub up : BoxSet
+  pub lost : ℕ → Option BoxSet
+  pub posted : ℕ → Option (List ℕ)
+
+-- the boxes that are falling, and those that have posted
+abbrev pub falling_set : Meaning → BoxSet
+falling_set m = set_of (λ i. is_some (m.lost i))
+
+abbrev pub posted_set : Meaning → BoxSet
+posted_set m = set_of (λ i. is_some (m.posted i))
+
+-- what code above may take for granted of every wire
+pub record WellFormed (m : Meaning) : Type 0 where
+  pub size : company_size m.n ≡ true
+  pub up_within : m.up.mask < 2 ^ m.n
+  pub falling : (q : ℕ) (s : BoxSet) → m.lost q ≡ Some s → Loses m.n m.up q s
+  pub posted : (q : ℕ) (f : List ℕ) → m.posted q ≡ Some f → (q < m.n) × Postable f
+
+-- ---- making one
+
+-- a new wire: all up, none falling, nothing posted
+abbrev pub fresh : ℕ → Meaning
+fresh n = record { n = n; up = set_of (λ i. nat_lt i n); lost = λ _. None; posted = λ _. None }
+
+unfoldable pub making : ℕ → Result Meaning Refusal
+making n = unless ((not (company_size n), refusal.Company) ∷ []) (fresh n)
+
+-- ---- rounds
+
+-- as a round opens, none has posted
+abbrev pub opened : Meaning → Meaning
+opened m = record m { posted = λ _. None }
+
+-- as it closes, those that were falling are up no more, and what was posted stays
+abbrev pub closed : Meaning → Meaning
+closed m = record m { up = set_of (λ i. member m.up i && not (is_some (m.lost i))); lost = λ _. None }
+
+-- ---- falling
+
+-- that a set has a box that is none of the company's, or the box itself
+abbrev pub bad_lost : Meaning → ℕ → BoxSet → Bool
+bad_lost m q s = any (λ i. member s i && nat_le m.n i) 32 || member s q
+
+abbrev pub fallen : ℕ → BoxSet → Meaning → Meaning
+fallen q s m = record m { lost = λ i. cond (i == q) (Some s) (m.lost i) }
+
+-- box q falls and loses the boxes of s
+unfoldable pub falling : ℕ → BoxSet → Meaning → Result Meaning Refusal
+falling q s m =
+    unless
+    ((nat_le m.n q, refusal.Stranger)
+    ∷ (bad_lost m q s, refusal.Set)
+    ∷ (not (member m.up q) || is_some (m.lost q), refusal.Down)
+    ∷ [])
+    (fallen q s m)
+
+-- ---- posting
+
+abbrev pub carrying : ℕ → List ℕ → Meaning → Meaning
+carrying q f m = record m { posted = λ i. cond (i == q) (Some f) (m.posted i) }
+
+-- box q posts the bytes f; it may be falling
+unfoldable pub posting : ℕ → List ℕ → Meaning → Result Meaning Refusal
+posting q f m =
+    unless
+    ((nat_le m.n q, refusal.Stranger)
+    ∷ (not (member m.up q), refusal.Down)
+    ∷ (is_some (m.posted q), refusal.Posted)
+    ∷ (length f == 0 || nat_lt longest_frame (length f), refusal.Narrow)
+    ∷ [])
+    (carrying q f m)
+
+-- ---- what a call that may be refused tells, and leaves
+
+abbrev pub answer : Result Meaning Refusal → Result ⊤ Refusal
+answer r = result_map_both (λ _. tt) (λ e. e) r
+
+abbrev pub or_kept : Meaning → Result Meaning Refusal → Meaning
+or_kept m r = result_unwrap_or r m
+
+-- ---- fetching
+
+-- whether box p is among those that do not hear
+abbrev pub names : Option BoxSet → ℕ → Bool
+names None p = false
+names (Some s) p = member s p
+
+-- what box p hears of box q: nothing where q posted none, or is falling and loses p
+abbrev pub heard : Meaning → (p q : ℕ) → Option (List ℕ)
+heard m p q = cond (names (m.lost q) p) None (m.posted q)
+
+-- what is given to p of q where there is room for so many bytes
+unfoldable pub fetching : (p q room : ℕ) → Meaning → Result (Option (List ℕ)) Refusal
+fetching p q room m =
+    unless
+    ((nat_le m.n p || nat_le m.n q, refusal.Stranger)
+    ∷ (nat_lt room (length (unwrap_or (heard m p q) [])), refusal.Narrow)
+    ∷ [])
+    (heard m p q)
+
+-- the answer: the length, or nothing
+abbrev pub told : Result (Option (List ℕ)) Refusal → Result (Option ℕ) Refusal
+told r = result_map_both (option_map length) (λ e. e) r
+
+-- what the bytes given hold then: the frame at their front, and what stood behind; or what they held
+abbrev pub laid : Result (Option (List ℕ)) Refusal → List ℕ → List ℕ
+laid (Ok (Some f)) out = f ++ drop (length f) out
+laid (Ok None) out = out
+laid (Err e) out = out

@@ -1,0 +1,26 @@
+-- What a wire means that has this roster and these frames. Assumes nothing.
+use Rattle.std.specs.Prelude.{ℕ, Bool, cond, ◌||◌, List, [], ◌∷◌, is_some, Some, None, Option, Result, nat_le}
+use Rattle.numbers.specs.declared.refusal.Refusal.{Refusal}
+use Rattle.numbers.specs.declared.refusal.Refusal.TheVariants.{Stranger}
+use Rattle.numbers.specs.Refusals.{unless}
+use Rattle.sets.specs.Masks.{member}
+use Rattle.wire.specs.declared.roster.Roster.{Roster}
+use Rattle.wire.specs.Kept.{set_at}
+use Rattle.wire.specs.Meaning.{Meaning, heard}
+
+-- x where there is one
+abbrev pub some_if : {X : Type 0} → Bool → X → Option X
+some_if b x = cond b (Some x) None
+
+-- by a roster, and by what bytes would be those of each box that has posted
+abbrev pub shown : Roster → (ℕ → List ℕ) → Meaning
+shown r frames = record {
+  n = r.n;
+  up = r.up;
+  lost = λ q. some_if (member r.falling q) (set_at r.lost q);
+  posted = λ q. some_if (member r.posted q) (frames q);
+}
+
+-- whether there is something that box p hears of box q
+abbrev pub reaching : (p q : ℕ) → Meaning → Result Bool Refusal
+reaching p q m = unless ((nat_le m.n p || nat_le m.n q, Stranger) ∷ []) (is_some (heard m p q))

@@ -1,0 +1,122 @@
+// The roster of a wire: all that a wire means but the bytes. Its contracts say what it makes of that meaning, whatever the bytes are.
+ghost use Rattle.std.specs.Prelude.{◌≡◌, ℕ, ◌^◌, ◌<◌, ◌≤◌, true};
+ghost use Rattle.sets.specs.Masks.{member};
+ghost use Rattle.wire.specs.Kept.{set_at, Loses};
+
+use frames::LONGEST_FRAME;
+use numbers::Refusal;
+use sets::{BoxNumber, BoxSet, is_company_size};
+
+// The most boxes that a company has.
+pub(crate) const PLACES: usize = 32;
+
+#[derive(Clone, Copy, Debug)]
+pub(crate) struct Roster {
+    pub n: u32,
+    pub up: BoxSet,
+    pub falling: BoxSet,
+    // What a box loses by its number; of no meaning where it is not falling.
+    pub lost: [BoxSet; PLACES],
+    pub posted: BoxSet,
+    ghost several: { 2 ≤ n },
+    ghost few: { n ≤ 32 },
+    ghost up_within: { up.mask < 2 ^ n },
+    ghost losing: { (q : ℕ) → member falling q ≡ true → Loses n up q (set_at lost q) },
+    ghost posted_within: { posted.mask < 2 ^ n },
+}
+
+impl Roster {
+    ghost use Rattle.std.specs.Prelude.{List, false, ◌||◌, ◌==◌};
+    ghost use Rattle.std.specs.Result.{result_map_both};
+    ghost use Rattle.sets.specs.Masks.{set_of};
+    ghost use Rattle.wire.specs.Meaning.{making, opened, closed, falling, posting, carrying, answer, or_kept};
+    ghost use Rattle.wire.specs.Rosters.{shown, reaching};
+
+    #[tactic(auto, unfolding(crate::specs::Meaning::making))]
+    pub(crate) fn new(n: u32) -> Result<Roster, Refusal>
+        ensures { (frames : ℕ → List ℕ) → result_map_both (λ r. shown r frames) (λ e. e) result ≡ making n }
+    {
+        if !is_company_size(n) {
+            return Err(Refusal::Company);
+        }
+        Ok(Roster {
+            n,
+            up: BoxSet::all_below(n),
+            falling: BoxSet::empty(),
+            lost: [BoxSet::empty(); PLACES],
+            posted: BoxSet::empty(),
+        })
+    }
+
+    pub(crate) fn open(&mut self)
+        ensures { (frames : ℕ → List ℕ) → shown self.new frames ≡ opened (shown self.old frames) }
+    {
+        self.posted = BoxSet::empty();
+    }
+
+    pub(crate) fn close(&mut self)
+        ensures { (frames : ℕ → List ℕ) → shown self.new frames ≡ closed (shown self.old frames) }
+    {
+        self.up = self.up.difference(self.falling);
+        self.falling = BoxSet::empty();
+    }
+
+    #[tactic(auto, unfolding(crate::specs::Meaning::falling))]
+    pub(crate) fn fall(&mut self, q: BoxNumber, lost: BoxSet) -> Result<(), Refusal>
+        ensures answer { (frames : ℕ → List ℕ) → result ≡ answer (falling q.0 lost (shown self.old frames)) }
+        ensures meaning { (frames : ℕ → List ℕ) → shown self.new frames ≡ or_kept (shown self.old frames) (falling q.0 lost (shown self.old frames)) }
+    {
+        if q.0 >= self.n {
+            return Err(Refusal::Stranger);
+        }
+        if !lost.is_below(self.n) || lost.contains(q) {
+            return Err(Refusal::Set);
+        }
+        if !self.up.contains(q) || self.falling.contains(q) {
+            return Err(Refusal::Down);
+        }
+        self.lost[q.0 as usize] = lost;
+        self.falling = self.falling.with(q);
+        Ok(())
+    }
+
+    // Whether box q may post the frame, and why not.
+    #[tactic(auto, unfolding(crate::specs::Meaning::posting))]
+    pub(crate) fn check_posting(&self, q: BoxNumber, frame: &[u8]) -> Result<(), Refusal>
+        ensures { (frames : ℕ → List ℕ) → result ≡ answer (posting q.0 frame.now (shown self.now frames)) }
+    {
+        if q.0 >= self.n {
+            return Err(Refusal::Stranger);
+        }
+        if !self.up.contains(q) {
+            return Err(Refusal::Down);
+        }
+        if self.posted.contains(q) {
+            return Err(Refusal::Posted);
+        }
+        if frame.is_empty() || frame.len() > LONGEST_FRAME {
+            return Err(Refusal::Narrow);
+        }
+        Ok(())
+    }
+
+    // Enters that box q has posted.
+    pub(crate) fn enter_posted(&mut self, q: BoxNumber)
+        requires { q.0 < self.old.n }
+        ensures posted { self.new.posted ≡ set_of (λ i. member self.old.posted i || i == q.0) }
+        ensures meaning { (before after : ℕ → List ℕ) → ((i : ℕ) → (i == q.0) ≡ false → after i ≡ before i) → shown self.new after ≡ carrying q.0 (after q.0) (shown self.old before) }
+    {
+        self.posted = self.posted.with(q);
+    }
+
+    // Whether what box q posted reaches box p, if both are of the company.
+    pub(crate) fn reaches(&self, p: BoxNumber, q: BoxNumber) -> Result<bool, Refusal>
+        ensures { (frames : ℕ → List ℕ) → result ≡ reaching p.0 q.0 (shown self.now frames) }
+    {
+        if p.0 >= self.n || q.0 >= self.n {
+            return Err(Refusal::Stranger);
+        }
+        let is_lost = self.falling.contains(q) && self.lost[q.0 as usize].contains(p);
+        Ok(self.posted.contains(q) && !is_lost)
+    }
+}

@@ -1,0 +1,51 @@
+// What joins the boxes of a company. Code above sees a wire by its meaning alone: which boxes are up, what each box that is falling loses,
+// and what each has posted.
+ghost use Rattle.std.specs.Prelude.{◌≡◌, length};
+ghost use Rattle.wire.specs.Meaning.{Meaning, WellFormed, falling_set, posted_set, opened, closed, falling, posting, answer, or_kept, fetching, told, laid};
+
+use numbers::Refusal;
+use sets::{BoxNumber, BoxSet};
+
+pub trait Wire {
+    ghost meaning: { Self → Meaning };
+
+    // How many boxes it joins.
+    fn n(&self) -> u32
+        ensures { result ≡ (meaning self.now).n };
+
+    // The boxes that are up; one that is falling is up until the round closes.
+    fn up(&self) -> BoxSet
+        ensures { result ≡ (meaning self.now).up };
+
+    fn falling(&self) -> BoxSet
+        ensures { result ≡ falling_set (meaning self.now) };
+
+    // The boxes that have posted since a round was opened.
+    fn posted(&self) -> BoxSet
+        ensures { result ≡ posted_set (meaning self.now) };
+
+    // Opens a round: none has posted.
+    fn open(&mut self)
+        ensures { meaning self.new ≡ opened (meaning self.old) };
+
+    // Box q falls: what it sends in this round does not reach the boxes of the lost set.
+    fn fall(&mut self, q: BoxNumber, lost: BoxSet) -> Result<(), Refusal>
+        ensures answer { result ≡ answer (falling q.0 lost (meaning self.old)) }
+        ensures meaning { meaning self.new ≡ or_kept (meaning self.old) (falling q.0 lost (meaning self.old)) };
+
+    // Box q posts a frame for all to fetch.
+    fn post(&mut self, q: BoxNumber, frame: &[u8]) -> Result<(), Refusal>
+        ensures answer { result ≡ answer (posting q.0 frame.now (meaning self.old)) }
+        ensures meaning { meaning self.new ≡ or_kept (meaning self.old) (posting q.0 frame.now (meaning self.old)) };
+
+    // Box p fetches what box q posted: its length, with the frame at the front of `out`, or nothing.
+    fn fetch(&self, p: BoxNumber, q: BoxNumber, out: &mut [u8]) -> Result<Option<usize>, Refusal>
+        ensures answer { result ≡ told (fetching p.0 q.0 (length out.old) (meaning self.now)) }
+        ensures bytes { out.new ≡ laid (fetching p.0 q.0 (length out.old) (meaning self.now)) out.old };
+
+    // Closes the round: the boxes that are falling are down.
+    fn close(&mut self)
+        ensures { meaning self.new ≡ closed (meaning self.old) };
+
+    ghost formed: { (w : Self) → WellFormed (meaning w) };
+}
