@@ -27,9 +27,9 @@ none_if s e q x = ap (λ b. some_if b x) (none_member s e q)
 pub none_is : {A : Type 0} (s : BoxSet) → s ≡ set_of (λ _. false) → (q : ℕ) → member s q ≡ true → A
 none_is s e q t = let f = none_member s e q in absurd (grind arith)
 
--- a set in place of another in a list
-pub set_at-set : (sets : List BoxSet) (q : ℕ) (s : BoxSet) → q < length sets → (set_at (set sets q s) q ≡ s) × ((i : ℕ) → eqb i q ≡ false → set_at (set sets q s) i ≡ set_at sets i)
-set_at-set sets q s l = (get_or-set_same sets q s _ l, λ i e. get_or-set_other sets q i s _ (λ k. grind (arith, nat_tests)))
+-- a value in place of another in a list
+pub replaced : {X : Type 0} (xs : List X) (q : ℕ) (x d : X) → q < length xs → (get_or (set xs q x) q d ≡ x) × ((i : ℕ) → eqb i q ≡ false → get_or (set xs q x) i d ≡ get_or xs i d)
+replaced xs q x d l = (get_or-set_same xs q x d l, λ i e. get_or-set_other xs q i x d (λ k. grind (arith, nat_tests)))
 
 -- where box q enters a set
 module _ (n q : ℕ) (s t : BoxSet) (few : n ≤ 32) (h : s.mask < 2 ^ n) (l : q < n) (e : t ≡ set_of (λ i. member s i || eqb i q)) where
@@ -52,17 +52,14 @@ module _ (n q : ℕ) (s t : BoxSet) (few : n ≤ 32) (h : s.mask < 2 ^ n) (l : q
       go (inl y) k = let here : g i ≡ g q = ap g (eqb-true i q y) in grind (arith, now)
       go (inr y) k = let b = before i y in grind arith
 
-  -- what is kept of each box that is falling, where q falls
-  pub losing_more : (up : BoxSet) (sets : List BoxSet) (x : BoxSet) → q < length sets
-      → Loses n up q x → ((i : ℕ) → member s i ≡ true → Loses n up i (set_at sets i))
-      → (i : ℕ) → member t i ≡ true → Loses n up i (set_at (set sets q x) i)
-  losing_more up sets x k new old i m = go (cases_Bool (eqb i q)) (entering i) (set_at-set sets q x k)
+  -- what holds of each box of s holds of each of t, if it holds of q and what is said of the others is what was said
+  pub kept_more : {X : Type 0} (P : ℕ → X → Type 0) (f g : ℕ → X) → P q (g q) → ((i : ℕ) → eqb i q ≡ false → g i ≡ f i)
+      → ((i : ℕ) → member s i ≡ true → P i (f i)) → (i : ℕ) → member t i ≡ true → P i (g i)
+  kept_more P f g new before old i m = go (cases_Bool (eqb i q)) (entering i)
     where
-      go : (eqb i q ≡ true) ⊎ (eqb i q ≡ false) → member t i ≡ (member s i || eqb i q)
-          → (set_at (set sets q x) q ≡ x) × ((j : ℕ) → eqb j q ≡ false → set_at (set sets q x) j ≡ set_at sets j)
-          → Loses n up i (set_at (set sets q x) i)
-      go (inl y) b at = subst (λ j. Loses n up j (set_at (set sets q x) j)) (sym (eqb-true i q y)) (subst (Loses n up q) (sym at.0) new)
-      go (inr y) b at = subst (Loses n up i) (sym (at.1 i y)) (old i (grind arith))
+      go : (eqb i q ≡ true) ⊎ (eqb i q ≡ false) → member t i ≡ (member s i || eqb i q) → P i (g i)
+      go (inl y) b = subst (λ j. P j (g j)) (sym (eqb-true i q y)) new
+      go (inr y) b = subst (P i) (sym (before i y)) (old i (grind arith))
 
 -- all of a company are of it
 pub all_within : (n : ℕ) (s : BoxSet) → s ≡ set_of (λ i. ltb i n) → s.mask < 2 ^ n

@@ -1,7 +1,11 @@
 // The wire: what joins the boxes of a company, in two makes, a board and a tape.
 #![tactic(auto)]
 
+mod board;
+mod board_wire;
+mod line;
 mod roster;
 mod wire;
 
+pub use board::Board;
 pub use wire::Wire;

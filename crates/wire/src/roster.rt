@@ -26,15 +26,17 @@ pub(crate) struct Roster {
 }
 
 impl Roster {
-    ghost use Rattle.std.specs.Prelude.{List, false, ◌||◌, ◌==◌};
+    ghost use Rattle.std.specs.Prelude.{List, length, IfOk, OnOk, false, ◌||◌, ◌==◌};
     ghost use Rattle.std.specs.Result.{result_map_both};
     ghost use Rattle.sets.specs.Masks.{set_of};
-    ghost use Rattle.wire.specs.Meaning.{making, opened, closed, falling, posting, carrying, answer, or_kept};
+    ghost use Rattle.wire.specs.Kept.{Postable};
+    ghost use Rattle.wire.specs.Meaning.{making, opened, closed, falling, posting, carrying, answer, or_kept, fetching, told, laid};
     ghost use Rattle.wire.specs.Rosters.{shown, reaching};
 
     #[tactic(auto, unfolding(crate::specs::Meaning::making))]
     pub(crate) fn new(n: u32) -> Result<Roster, Refusal>
-        ensures { (frames : ℕ → List ℕ) → result_map_both (λ r. shown r frames) (λ e. e) result ≡ making n }
+        ensures made { (frames : ℕ → List ℕ) → result_map_both (λ r. shown r frames) (λ e. e) result ≡ making n }
+        ensures posted { IfOk result (λ r. r.posted ≡ set_of (λ _. false)) }
     {
         if !is_company_size(n) {
             return Err(Refusal::Company);
@@ -49,13 +51,15 @@ impl Roster {
     }
 
     pub(crate) fn open(&mut self)
-        ensures { (frames : ℕ → List ℕ) → shown self.new frames ≡ opened (shown self.old frames) }
+        ensures posted { self.new.posted ≡ set_of (λ _. false) }
+        ensures meaning { (frames : ℕ → List ℕ) → shown self.new frames ≡ opened (shown self.old frames) }
     {
         self.posted = BoxSet::empty();
     }
 
     pub(crate) fn close(&mut self)
-        ensures { (frames : ℕ → List ℕ) → shown self.new frames ≡ closed (shown self.old frames) }
+        ensures posted { self.new.posted ≡ self.old.posted }
+        ensures meaning { (frames : ℕ → List ℕ) → shown self.new frames ≡ closed (shown self.old frames) }
     {
         self.up = self.up.difference(self.falling);
         self.falling = BoxSet::empty();
@@ -64,6 +68,7 @@ impl Roster {
     #[tactic(auto, unfolding(crate::specs::Meaning::falling))]
     pub(crate) fn fall(&mut self, q: BoxNumber, lost: BoxSet) -> Result<(), Refusal>
         ensures answer { (frames : ℕ → List ℕ) → result ≡ answer (falling q.0 lost (shown self.old frames)) }
+        ensures posted { self.new.posted ≡ self.old.posted }
         ensures meaning { (frames : ℕ → List ℕ) → shown self.new frames ≡ or_kept (shown self.old frames) (falling q.0 lost (shown self.old frames)) }
     {
         if q.0 >= self.n {
@@ -83,7 +88,10 @@ impl Roster {
     // Whether box q may post the frame, and why not.
     #[tactic(auto, unfolding(crate::specs::Meaning::posting))]
     pub(crate) fn check_posting(&self, q: BoxNumber, frame: &[u8]) -> Result<(), Refusal>
-        ensures { (frames : ℕ → List ℕ) → result ≡ answer (posting q.0 frame.now (shown self.now frames)) }
+        ensures answer { (frames : ℕ → List ℕ) → result ≡ answer (posting q.0 frame.now (shown self.now frames)) }
+        ensures company { OnOk result (q.0 < self.now.n) }
+        ensures vacant { OnOk result (member self.now.posted q.0 ≡ false) }
+        ensures postable { OnOk result (Postable frame.now) }
     {
         if q.0 >= self.n {
             return Err(Refusal::Stranger);
@@ -109,8 +117,8 @@ impl Roster {
         self.posted = self.posted.with(q);
     }
 
-    // Whether what box q posted reaches box p, if both are of the company.
-    pub(crate) fn reaches(&self, p: BoxNumber, q: BoxNumber) -> Result<bool, Refusal>
+    // Whether there is something that box p hears of box q.
+    fn reaches(&self, p: BoxNumber, q: BoxNumber) -> Result<bool, Refusal>
         ensures { (frames : ℕ → List ℕ) → result ≡ reaching p.0 q.0 (shown self.now frames) }
     {
         if p.0 >= self.n || q.0 >= self.n {
@@ -118,5 +126,21 @@ impl Roster {
         }
         let is_lost = self.falling.contains(q) && self.lost[q.0 as usize].contains(p);
         Ok(self.posted.contains(q) && !is_lost)
+    }
+
+    // Gives box p what it hears of box q, where these would be the bytes that q posted.
+    #[tactic(auto, unfolding(crate::specs::Meaning::fetching))]
+    pub(crate) fn fetch(&self, p: BoxNumber, q: BoxNumber, frame: &[u8], out: &mut [u8]) -> Result<Option<usize>, Refusal>
+        ensures answer { (frames : ℕ → List ℕ) → frames q.0 ≡ frame.now → result ≡ told (fetching p.0 q.0 (length out.old) (shown self.now frames)) }
+        ensures bytes { (frames : ℕ → List ℕ) → frames q.0 ≡ frame.now → out.new ≡ laid (fetching p.0 q.0 (length out.old) (shown self.now frames)) out.old }
+    {
+        if !self.reaches(p, q)? {
+            return Ok(None);
+        }
+        if out.len() < frame.len() {
+            return Err(Refusal::Narrow);
+        }
+        out[..frame.len()].copy_from_slice(frame);
+        Ok(Some(frame.len()))
     }
 }

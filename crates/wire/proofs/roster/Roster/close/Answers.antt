@@ -2,8 +2,8 @@ use Rattle.std.proofs.Common.{◌∙◌, refl}
 use Rattle.wire.proofs.Shown.{meaning_ext, none_if, none_is, staying_within, up_shown}
 use Rattle.wire.proofs.roster.Roster.close.Goals as goal
 
-pub returns : goal.returns
-returns c = λ frames.
+pub returns-clause-meaning : goal.returns-clause-meaning
+returns-clause-meaning c = λ frames.
     meaning_ext _ _ refl
     (c.difference-self.ensures ∙ up_shown c.args.self.now frames)
     (λ q. none_if c.empty-self.result c.empty-self.ensures q _)

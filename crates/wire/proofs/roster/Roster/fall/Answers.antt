@@ -1,4 +1,4 @@
-use Rattle.std.proofs.Common.{◌≡◌, ◌^◌, ◌<◌, ◌≤◌, Bool, true, false, ◌&&◌, leb, set, Ok, sym, ap, refl, ◌∙◌, arith}
+use Rattle.std.proofs.Common.{◌≡◌, ◌^◌, ◌<◌, ◌≤◌, Bool, true, false, ◌&&◌, leb, set, Ok, sym, ap, subst, refl, ◌∙◌, arith}
 use Rattle.std.proofs.lemmas.Bool.Decides.{nat_tests}
 use Rattle.sets.specs.Tests.{any}
 use Rattle.sets.specs.Masks.{member}
@@ -6,7 +6,7 @@ use Rattle.sets.proofs.Members.{none_beyond}
 use Rattle.wire.specs.Kept.{set_at, Loses}
 use Rattle.wire.specs.Meaning.{falling, fallen, or_kept}
 use Rattle.wire.specs.Rosters.{shown}
-use Rattle.wire.proofs.Shown.{entered, falling_within, losing_more, meaning_ext, set_at-set}
+use Rattle.wire.proofs.Shown.{entered, falling_within, kept_more, meaning_ext, replaced}
 use Rattle.wire.proofs.roster.Roster.fall.Goals as goal
 
 pub invariant_of-self-clause-losing : goal.invariant_of-self-clause-losing
@@ -15,8 +15,10 @@ invariant_of-self-clause-losing c =
     let q = c.args.q.0 in
     let s = c.args.lost in
     let below : any (λ i. member s i && leb r.n i) 32 ≡ false = grind arith in
-    let new : Loses r.n r.up q s = (grind arith, none_beyond r.n s (omega arith) below, grind arith) in
-    losing_more r.n q r.falling c.with-self.result r.few (falling_within r) (omega arith) c.with-self.ensures r.up r.lost s (omega arith) new r.losing
+    let loses : Loses r.n r.up q s = (grind arith, none_beyond r.n s (omega arith) below, grind arith) in
+    let at = replaced r.lost q s (record { mask = 0 }) (omega arith) in
+    kept_more r.n q r.falling c.with-self.result r.few (falling_within r) (omega arith) c.with-self.ensures
+    (Loses r.n r.up) (set_at r.lost) (set_at (set r.lost q s)) (subst (Loses r.n r.up q) (sym at.0) loses) at.1 r.losing
 
 pub returns-clause-meaning : goal.returns-clause-meaning
 unfolding falling
@@ -26,6 +28,6 @@ returns-clause-meaning c = λ frames.
     let s = c.args.lost in
     let m = shown r frames in
     let falls : falling q s m ≡ Ok (fallen q s m) = grind (arith, nat_tests) in
-    let at = set_at-set r.lost q s (omega arith) in
+    let at = replaced r.lost q s (record { mask = 0 }) (omega arith) in
     let there = entered r.n q r.falling c.with-self.result r.few (falling_within r) (omega arith) c.with-self.ensures (set_at r.lost) (set_at (set r.lost q s)) s at.0 at.1 in
     meaning_ext _ _ refl refl there (λ _. refl) ∙ sym (ap (or_kept m) falls)

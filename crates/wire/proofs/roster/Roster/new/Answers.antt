@@ -14,8 +14,8 @@ invariant_of-result-clause-losing c = λ q t. none_is c.empty.result c.empty.ens
 pub invariant_of-result-clause-posted_within : goal.invariant_of-result-clause-posted_within
 invariant_of-result-clause-posted_within c = none_below c.empty-3.result c.empty-3.ensures _
 
-pub returns : goal.returns
+pub returns-clause-made : goal.returns-clause-made
 unfolding making
-returns c = λ frames.
+returns-clause-made c = λ frames.
     let sized : company_size c.args.n ≡ true = grind arith in
     rw sized (ap Ok (meaning_ext _ _ refl c.all_below.ensures (λ q. none_if c.empty.result c.empty.ensures q _) (λ q. none_if c.empty-3.result c.empty-3.ensures q _)))

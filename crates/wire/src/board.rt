@@ -1,0 +1,44 @@
+// The board: a wire that has a place of fixed size for the frame of each box.
+ghost use Rattle.std.specs.Prelude.{◌≡◌, ℕ, true};
+ghost use Rattle.sets.specs.Masks.{member};
+ghost use Rattle.wire.specs.Kept.{Postable};
+ghost use Rattle.wire.specs.Lines.{line_frame};
+
+use super::line::Line;
+use super::roster::{PLACES, Roster};
+use numbers::Refusal;
+use sets::BoxNumber;
+
+#[derive(Drop, Debug)]
+pub struct Board {
+    pub(crate) roster: Roster,
+    // By the number of the box; of no meaning where it has not posted.
+    pub(crate) lines: [Line; PLACES],
+    ghost postable: { (q : ℕ) → member roster.posted q ≡ true → Postable (line_frame lines q) },
+}
+
+impl Board {
+    ghost use Rattle.std.specs.Result.{result_map_both};
+    ghost use Rattle.wire.specs.Meaning.{making};
+    ghost use Rattle.wire.specs.Boards.{board_meaning};
+
+    // A board for n boxes, all up.
+    pub fn new(n: u32) -> Result<Board, Refusal>
+        ensures { result_map_both board_meaning (λ e. e) result ≡ making n }
+    {
+        Ok(Board {
+            roster: Roster::new(n)?,
+            lines: [Line::empty(); PLACES],
+        })
+    }
+
+    // The bytes on the line of box q, whether it has posted or not.
+    pub(crate) fn frame(&self, q: BoxNumber) -> &[u8]
+        ensures { result.now ≡ line_frame self.now.lines q.0 }
+    {
+        match self.lines.get(q.0 as usize) {
+            Some(line) => line.frame(),
+            None => &[],
+        }
+    }
+}

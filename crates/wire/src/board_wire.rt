@@ -1,0 +1,56 @@
+// A board as a wire.
+ghost use Rattle.wire.specs.Boards.{board_meaning};
+ghost use Rattle.wire.specs.FormedLemmas.{board_formed};
+
+use super::board::Board;
+use super::line::Line;
+use super::wire::Wire;
+use numbers::Refusal;
+use sets::{BoxNumber, BoxSet};
+
+impl Wire for Board {
+    ghost meaning = { board_meaning };
+
+    ghost formed = { board_formed };
+
+    fn n(&self) -> u32 {
+        self.roster.n
+    }
+
+    fn up(&self) -> BoxSet {
+        self.roster.up
+    }
+
+    #[tactic(auto, using(crate::proofs::Shown::falling_shown))]
+    fn falling(&self) -> BoxSet {
+        self.roster.falling
+    }
+
+    #[tactic(auto, using(crate::proofs::Shown::posted_shown))]
+    fn posted(&self) -> BoxSet {
+        self.roster.posted
+    }
+
+    fn open(&mut self) {
+        self.roster.open();
+    }
+
+    fn fall(&mut self, q: BoxNumber, lost: BoxSet) -> Result<(), Refusal> {
+        self.roster.fall(q, lost)
+    }
+
+    fn post(&mut self, q: BoxNumber, frame: &[u8]) -> Result<(), Refusal> {
+        self.roster.check_posting(q, frame)?;
+        self.lines[q.0 as usize] = Line::of(frame);
+        self.roster.enter_posted(q);
+        Ok(())
+    }
+
+    fn fetch(&self, p: BoxNumber, q: BoxNumber, out: &mut [u8]) -> Result<Option<usize>, Refusal> {
+        self.roster.fetch(p, q, self.frame(q), out)
+    }
+
+    fn close(&mut self) {
+        self.roster.close();
+    }
+}
