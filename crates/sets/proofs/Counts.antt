@@ -49,6 +49,18 @@ count_same P Q (suc n) w e k l =
     at zero l above first = first
     at (suc k) l above first = above k (le_of_suc-le-suc l)
 
+-- one number more that passes
+pub count_more : (P : ℕ → Bool) (n q : ℕ) → q < n → P q ≡ false → count (λ k. P k || eqb k q) n ≡ suc (count P n)
+unfolding count
+count_more P zero q l e = absurd (not-suc-le-zero l)
+count_more P (suc n) zero l e =
+    let rest = count_ext (λ k. P (suc k) || eqb (suc k) zero) (next P) n (λ k _. grind (arith, nat_tests)) in
+    grind (arith, nat_tests)
+count_more P (suc n) (suc q) l e =
+    let ih = count_more (next P) n q (le_of_suc-le-suc l) e in
+    let rest = count_ext (λ k. P (suc k) || eqb (suc k) (suc q)) (λ k. P (suc k) || eqb k q) n (λ k _. grind (arith, nat_tests)) in
+    grind (arith, nat_tests)
+
 -- ---- `any`, which takes the highest number first
 
 pub any_from : (P : ℕ → Bool) (n k : ℕ) → k < n → P k ≡ true → any P n ≡ true

@@ -4,7 +4,8 @@ ghost use Rattle.sets.specs.Companies.{company_size, company};
 
 const LEAST_COMPANY: u32 = 2;
 
-const MOST_COMPANY: u32 = 32;
+// The most boxes that a company has.
+pub const MOST_COMPANY: u32 = 32;
 
 // Whether a company may have n boxes.
 pub fn is_company_size(n: u32) -> bool

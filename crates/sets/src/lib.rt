@@ -7,7 +7,7 @@ mod set;
 mod show;
 mod theorems;
 
-pub use company::{is_company, is_company_size};
+pub use company::{MOST_COMPANY, is_company, is_company_size};
 pub use labels::{BoxNumber, RoundNumber};
 pub use set::BoxSet;
 pub use theorems::sets_stand;

@@ -1,6 +1,5 @@
 -- What posting makes of a wire. Assumes nothing.
-use Rattle.std.proofs.Common.{◌≡◌, ℕ, ◌<◌, ◌≤◌, true, false, eqb, List, [], length, map, get_or, set, Ok, ap, ◌∙◌, sym, subst, refl, arith}
-use Rattle.std.proofs.lemmas.Bool.Decides.{nat_tests}
+use Rattle.std.proofs.Common.{◌≡◌, ℕ, ◌<◌, false, eqb, List, [], length, map, set, Ok, arith}
 use Rattle.std.proofs.lemmas.List.{map-set, length-map}
 use Rattle.wire.specs.declared.line.Line.{Line}
 use Rattle.wire.specs.Meaning.{Meaning, posting, carrying, answer, or_kept}

@@ -1,6 +1,7 @@
 -- Every wire means something well formed. Assumes nothing.
-use Rattle.std.specs.Prelude.{◌≡◌, ℕ, ◌<◌, Bool, true, false, List, Some, ◌⊎◌}
+use Rattle.std.specs.Prelude.{◌≡◌, ℕ, ◌-◌, ◌<◌, true, false, List, length, Some, ◌⊎◌}
 use Rattle.std.proofs.Common.{subst, inl, inr, arith}
+use Rattle.std.proofs.lemmas.List.Edits.{length-between}
 use Rattle.std.proofs.lemmas.Bool.{cases_Bool}
 use Rattle.std.proofs.lemmas.Bool.Decides.{nat_tests}
 use Rattle.sets.specs.declared.set.BoxSet.{BoxSet}
@@ -8,11 +9,14 @@ use Rattle.sets.specs.Masks.{member}
 use Rattle.sets.proofs.Bits.{bit_high}
 use Rattle.wire.specs.declared.roster.Roster.{Roster}
 use Rattle.wire.specs.declared.board.Board.{Board}
+use Rattle.wire.specs.declared.tape.Tape.{Tape}
 use Rattle.wire.specs.Kept.{set_at, Loses, Postable}
 use Rattle.wire.specs.Meaning.{WellFormed}
 use Rattle.wire.specs.Rosters.{some_if, shown}
 use Rattle.wire.specs.Lines.{line_frame}
 use Rattle.wire.specs.Boards.{board_meaning}
+use Rattle.wire.specs.Spans.{span_at, tape_frame}
+use Rattle.wire.specs.Tapes.{tape_meaning}
 
 -- a wire with this roster is well formed, if what stands posted is postable
 shown_formed : (r : Roster) (frames : ℕ → List ℕ) → ((q : ℕ) → member r.posted q ≡ true → Postable (frames q)) → WellFormed (shown r frames)
@@ -26,9 +30,18 @@ shown_formed r frames postable = record {
     lost : (q : ℕ) (s : BoxSet) → (member r.falling q ≡ true) ⊎ (member r.falling q ≡ false) → some_if (member r.falling q) (set_at r.lost q) ≡ Some s → Loses r.n r.up q s
     lost q s (inl t) e = subst (Loses r.n r.up q) (grind (arith, t, e)) (r.losing q t)
     lost q s (inr t) e = absurd (grind (arith, t, e))
+
     stands : (q : ℕ) (f : List ℕ) → (member r.posted q ≡ true) ⊎ (member r.posted q ≡ false) → some_if (member r.posted q) (frames q) ≡ Some f → (q < r.n) × Postable f
     stands q f (inl t) e = (grind (arith, nat_tests, bit_high r.n r.posted.mask q r.posted_within), subst Postable (grind (arith, t, e)) (postable q t))
     stands q f (inr t) e = absurd (grind (arith, t, e))
 
 pub board_formed : (b : Board) → WellFormed (board_meaning b)
 board_formed b = shown_formed b.roster (line_frame b.lines) b.postable
+
+pub tape_formed : (t : Tape) → WellFormed (tape_meaning t)
+tape_formed t =
+    shown_formed t.roster (tape_frame t.spans t.bytes) (λ q p.
+    let h = t.holds q p in
+    let w = t.within q in
+    let l : length (tape_frame t.spans t.bytes q) ≡ (span_at t.spans q).end - (span_at t.spans q).start = length-between t.bytes (span_at t.spans q).start (span_at t.spans q).end w.1 in
+    (omega arith, omega arith))

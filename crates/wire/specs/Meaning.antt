@@ -1,5 +1,5 @@
 -- What a wire means, and what each call makes of it. Assumes nothing.
-use Rattle.std.specs.Prelude.{◌≡◌, ℕ, ◌+◌, ◌^◌, ◌<◌, ◌≤◌, Bool, true, false, cond, not, ◌&&◌, ◌||◌, ⊤, List, [], ◌∷◌, ◌++◌, length, drop, is_some, Some, None, Option, unwrap_or, option_map, Ok, Err, Result, ◌==◌, nat_le, nat_lt}
+use Rattle.std.specs.Prelude.{◌≡◌, ℕ, ◌^◌, ◌<◌, Bool, true, false, cond, not, ◌&&◌, ◌||◌, ⊤, List, [], ◌∷◌, ◌++◌, length, drop, is_some, Some, None, Option, unwrap_or, option_map, Ok, Err, Result, ◌==◌, nat_le, nat_lt}
 use Rattle.std.specs.Result.{result_map_both, result_unwrap_or}
 use Rattle.numbers.specs.declared.refusal.Refusal.{Refusal}
 use Rattle.numbers.specs.declared.refusal.Refusal.TheVariants as refusal

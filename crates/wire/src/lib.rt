@@ -5,7 +5,11 @@ mod board;
 mod board_wire;
 mod line;
 mod roster;
+mod span;
+mod tape;
+mod tape_wire;
 mod wire;
 
 pub use board::Board;
+pub use tape::Tape;
 pub use wire::Wire;

@@ -5,10 +5,10 @@ ghost use Rattle.wire.specs.Kept.{set_at, Loses};
 
 use frames::LONGEST_FRAME;
 use numbers::Refusal;
-use sets::{BoxNumber, BoxSet, is_company_size};
+use sets::{BoxNumber, BoxSet, MOST_COMPANY, is_company_size};
 
-// The most boxes that a company has.
-pub(crate) const PLACES: usize = 32;
+// A place for each box that a company can have.
+pub(crate) const PLACES: usize = MOST_COMPANY as usize;
 
 #[derive(Clone, Copy, Debug)]
 pub(crate) struct Roster {
@@ -112,7 +112,7 @@ impl Roster {
     pub(crate) fn enter_posted(&mut self, q: BoxNumber)
         requires { q.0 < self.old.n }
         ensures posted { self.new.posted ≡ set_of (λ i. member self.old.posted i || i == q.0) }
-        ensures meaning { (before after : ℕ → List ℕ) → ((i : ℕ) → (i == q.0) ≡ false → after i ≡ before i) → shown self.new after ≡ carrying q.0 (after q.0) (shown self.old before) }
+        ensures meaning { (before after : ℕ → List ℕ) → ((i : ℕ) → (i == q.0) ≡ false → member self.old.posted i ≡ true → after i ≡ before i) → shown self.new after ≡ carrying q.0 (after q.0) (shown self.old before) }
     {
         self.posted = self.posted.with(q);
     }
@@ -130,7 +130,13 @@ impl Roster {
 
     // Gives box p what it hears of box q, where these would be the bytes that q posted.
     #[tactic(auto, unfolding(crate::specs::Meaning::fetching))]
-    pub(crate) fn fetch(&self, p: BoxNumber, q: BoxNumber, frame: &[u8], out: &mut [u8]) -> Result<Option<usize>, Refusal>
+    pub(crate) fn fetch(
+        &self,
+        p: BoxNumber,
+        q: BoxNumber,
+        frame: &[u8],
+        out: &mut [u8],
+    ) -> Result<Option<usize>, Refusal>
         ensures answer { (frames : ℕ → List ℕ) → frames q.0 ≡ frame.now → result ≡ told (fetching p.0 q.0 (length out.old) (shown self.now frames)) }
         ensures bytes { (frames : ℕ → List ℕ) → frames q.0 ≡ frame.now → out.new ≡ laid (fetching p.0 q.0 (length out.old) (shown self.now frames)) out.old }
     {

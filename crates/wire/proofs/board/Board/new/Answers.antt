@@ -1,4 +1,4 @@
-use Rattle.std.proofs.Common.{[], sym, ◌∙◌, arith}
+use Rattle.std.proofs.Common.{[], arith}
 use Rattle.wire.proofs.Shown.{none_is}
 use Rattle.wire.proofs.board.Board.new.Goals as goal
 

@@ -1,4 +1,4 @@
-use Rattle.std.proofs.Common.{◌≡◌, ◌^◌, ◌<◌, ◌≤◌, Bool, true, false, ◌&&◌, leb, set, Ok, sym, ap, subst, refl, ◌∙◌, arith}
+use Rattle.std.proofs.Common.{◌≡◌, false, ◌&&◌, leb, set, Ok, sym, ap, subst, refl, ◌∙◌, arith}
 use Rattle.std.proofs.lemmas.Bool.Decides.{nat_tests}
 use Rattle.sets.specs.Tests.{any}
 use Rattle.sets.specs.Masks.{member}
@@ -18,7 +18,7 @@ invariant_of-self-clause-losing c =
     let loses : Loses r.n r.up q s = (grind arith, none_beyond r.n s (omega arith) below, grind arith) in
     let at = replaced r.lost q s (record { mask = 0 }) (omega arith) in
     kept_more r.n q r.falling c.with-self.result r.few (falling_within r) (omega arith) c.with-self.ensures
-    (Loses r.n r.up) (set_at r.lost) (set_at (set r.lost q s)) (subst (Loses r.n r.up q) (sym at.0) loses) at.1 r.losing
+    (Loses r.n r.up) (set_at r.lost) (set_at (set r.lost q s)) (subst (Loses r.n r.up q) (sym at.0) loses) (λ i e _. at.1 i e) r.losing
 
 pub returns-clause-meaning : goal.returns-clause-meaning
 unfolding falling
@@ -29,5 +29,5 @@ returns-clause-meaning c = λ frames.
     let m = shown r frames in
     let falls : falling q s m ≡ Ok (fallen q s m) = grind (arith, nat_tests) in
     let at = replaced r.lost q s (record { mask = 0 }) (omega arith) in
-    let there = entered r.n q r.falling c.with-self.result r.few (falling_within r) (omega arith) c.with-self.ensures (set_at r.lost) (set_at (set r.lost q s)) s at.0 at.1 in
+    let there = entered r.n q r.falling c.with-self.result r.few (falling_within r) (omega arith) c.with-self.ensures (set_at r.lost) (set_at (set r.lost q s)) s at.0 (λ i e _. at.1 i e) in
     meaning_ext _ _ refl refl there (λ _. refl) ∙ sym (ap (or_kept m) falls)

@@ -1,0 +1,16 @@
+use Rattle.std.proofs.Common.{[], arith}
+use Rattle.wire.proofs.Shown.{none_is}
+use Rattle.wire.proofs.Tapes.{blank_within}
+use Rattle.wire.proofs.tape.Tape.new.Goals as goal
+
+pub returns-in_err-new : goal.returns-in_err-new
+returns-in_err-new c = let h = c.new.ensures.made (λ _. []) in grind arith
+
+pub invariant_of-result-clause-within : goal.invariant_of-result-clause-within
+invariant_of-result-clause-within c = blank_within _ 32
+
+pub invariant_of-result-clause-holds : goal.invariant_of-result-clause-holds
+invariant_of-result-clause-holds c = λ q t. none_is c.in_ok-new.field-0.posted c.in_ok-new.ensures.posted q t
+
+pub returns : goal.returns
+returns c = c.in_ok-new.ensures.made _

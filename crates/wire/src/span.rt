@@ -1,0 +1,6 @@
+// Where the frame of one box stands on a tape: from `start` up to, and not with, `end`.
+#[derive(Clone, Copy, Debug)]
+pub(crate) struct Span {
+    pub start: usize,
+    pub end: usize,
+}

@@ -1,0 +1,61 @@
+// A tape as a wire.
+ghost use Rattle.wire.specs.Tapes.{tape_meaning};
+ghost use Rattle.wire.specs.FormedLemmas.{tape_formed};
+
+use super::span::Span;
+use super::tape::Tape;
+use super::wire::Wire;
+use numbers::Refusal;
+use sets::{BoxNumber, BoxSet};
+
+impl Wire for Tape {
+    ghost meaning = { tape_meaning };
+
+    ghost formed = { tape_formed };
+
+    fn n(&self) -> u32 {
+        self.roster.n
+    }
+
+    fn up(&self) -> BoxSet {
+        self.roster.up
+    }
+
+    #[tactic(auto, using(crate::proofs::Shown::falling_shown))]
+    fn falling(&self) -> BoxSet {
+        self.roster.falling
+    }
+
+    #[tactic(auto, using(crate::proofs::Shown::posted_shown))]
+    fn posted(&self) -> BoxSet {
+        self.roster.posted
+    }
+
+    fn open(&mut self) {
+        self.roster.open();
+        self.used = 0;
+    }
+
+    fn fall(&mut self, q: BoxNumber, lost: BoxSet) -> Result<(), Refusal> {
+        self.roster.fall(q, lost)
+    }
+
+    fn post(&mut self, q: BoxNumber, frame: &[u8]) -> Result<(), Refusal> {
+        self.roster.check_posting(q, frame)?;
+        let start = self.used;
+        let end = start + frame.len();
+        self.bytes[start..end].copy_from_slice(frame);
+        self.spans[q.0 as usize] = Span { start, end };
+        self.used = end;
+        self.roster.enter_posted(q);
+        Ok(())
+    }
+
+    fn fetch(&self, p: BoxNumber, q: BoxNumber, out: &mut [u8]) -> Result<Option<usize>, Refusal> {
+        self.roster.fetch(p, q, self.frame(q), out)
+    }
+
+    fn close(&mut self) {
+        self.roster.close();
+    }
+}
