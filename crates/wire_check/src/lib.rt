@@ -3,4 +3,4 @@
 
 mod exchange;
 
-pub use exchange::{Exchange, exchange};
+pub use exchange::{Exchanged, exchange_frames};
