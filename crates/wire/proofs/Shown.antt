@@ -25,12 +25,17 @@ is_some_if false x = refl
 pub none_if : {X : Type 0} (s : BoxSet) → s ≡ set_of (λ _. false) → (q : ℕ) (x : X) → some_if (member s q) x ≡ None
 none_if s e q x = ap (λ b. some_if b x) (none_member s e q)
 
-pub none_is : {A : Type 0} (s : BoxSet) → s ≡ set_of (λ _. false) → (q : ℕ) → member s q ≡ true → A
-none_is s e q t = let f = none_member s e q in absurd (grind arith)
-
 -- a value in place of another in a list
 pub replaced : {X : Type 0} (xs : List X) (q : ℕ) (x d : X) → q < length xs → (get_or (set xs q x) q d ≡ x) × ((i : ℕ) → eqb i q ≡ false → get_or (set xs q x) i d ≡ get_or xs i d)
 replaced xs q x d l = (get_or-set_same xs q x d l, λ i e. get_or-set_other xs q i x d (λ k. grind (arith, nat_tests)))
+
+-- what holds of each value of a list, and of x, holds of each where x is in place of one
+pub everywhere : {X : Type 0} (P : X → Type 0) (xs : List X) (q : ℕ) (x d : X) → q < length xs → P x → ((i : ℕ) → P (get_or xs i d)) → (i : ℕ) → P (get_or (set xs q x) i d)
+everywhere P xs q x d l new old i = go (cases_Bool (eqb i q)) (replaced xs q x d l)
+  where
+    go : (eqb i q ≡ true) ⊎ (eqb i q ≡ false) → (get_or (set xs q x) q d ≡ x) × ((j : ℕ) → eqb j q ≡ false → get_or (set xs q x) j d ≡ get_or xs j d) → P (get_or (set xs q x) i d)
+    go (inl y) at = subst (λ j. P (get_or (set xs q x) j d)) (sym (eqb-true i q y)) (subst P (sym at.0) new)
+    go (inr y) at = subst P (sym (at.1 i y)) (old i)
 
 -- where box q enters a set
 module _ (n q : ℕ) (s t : BoxSet) (few : n ≤ 32) (h : s.mask < 2 ^ n) (l : q < n) (e : t ≡ set_of (λ i. member s i || eqb i q)) where
@@ -78,12 +83,6 @@ module _ (r : Roster) where
       let f : member r.falling i ≡ true → member r.up i ≡ true = λ t. (r.losing i t).0 in
       grind arith)
 
-  -- and of those that stay up
-  pub staying_within : (s : BoxSet) → s ≡ set_of (λ i. member r.up i && not (member r.falling i)) → s.mask < 2 ^ r.n
-  staying_within s e =
-      (mask_below r.n s.mask).1 (λ i l.
-      member_only (λ k. member r.up k && not (member r.falling k)) (member r.up) s e (λ k t. grind arith) i (bit_high r.n r.up.mask i r.up_within l))
-
   module _ (frames : ℕ → List ℕ) where
     pub falling_shown : r.falling ≡ falling_set (shown r frames)
     falling_shown = set_kept r.n r.falling _ r.few falling_within (λ i. sym (is_some_if (member r.falling i) _))
@@ -94,3 +93,8 @@ module _ (r : Roster) where
     -- the boxes up that are not falling
     pub up_shown : set_of (λ i. member r.up i && not (member r.falling i)) ≡ (closed (shown r frames)).up
     up_shown = set_ext _ _ (λ i _. ap (λ b. member r.up i && not b) (sym (is_some_if (member r.falling i) _)))
+
+    pub staying_within : (s : BoxSet) → s ≡ (closed (shown r frames)).up → s.mask < 2 ^ r.n
+    staying_within s e =
+        (mask_below r.n s.mask).1 (λ i l.
+        member_only (λ k. member r.up k && not (member r.falling k)) (member r.up) s (e ∙ sym up_shown) (λ k t. grind arith) i (bit_high r.n r.up.mask i r.up_within l))

@@ -2,7 +2,7 @@
 ghost use Rattle.wire.specs.Tapes.{tape_meaning};
 ghost use Rattle.wire.specs.FormedLemmas.{tape_formed};
 
-use super::span::Span;
+use super::span::append;
 use super::tape::Tape;
 use super::wire::Wire;
 use numbers::Refusal;
@@ -42,11 +42,9 @@ impl Wire for Tape {
 
     fn post(&mut self, q: BoxNumber, frame: &[u8]) -> Result<(), Refusal> {
         self.roster.check_posting(q, frame)?;
-        let start = self.used;
-        let end = start + frame.len();
-        self.bytes[start..end].copy_from_slice(frame);
-        self.spans[q.0 as usize] = Span { start, end };
-        self.used = end;
+        let span = append(&mut self.bytes, self.used, frame);
+        self.spans[q.0 as usize] = span;
+        self.used = span.end;
         self.roster.enter_posted(q);
         Ok(())
     }

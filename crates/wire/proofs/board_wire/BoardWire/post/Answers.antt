@@ -1,4 +1,4 @@
-use Rattle.std.proofs.Common.{ap, ◌∙◌, sym, subst, set, arith}
+use Rattle.std.proofs.Common.{◌≡◌, ap, ◌∙◌, sym, subst, set, arith}
 use Rattle.wire.specs.Kept.{Postable}
 use Rattle.wire.specs.Lines.{line_frame}
 use Rattle.wire.specs.Meaning.{carrying}
@@ -12,18 +12,23 @@ invariant_of-self c =
     let b = c.args.self.now in
     let r = b.roster in
     let q = c.args.q.0 in
-    let at = line_replaced b.lines q c.of.result (omega (arith, b.roster.few, c.in_ok-check_posting.ensures.company)) in
+    let after = set b.lines q c.of.result in
     let may = c.in_ok-check_posting.ensures in
+    let at = line_replaced b.lines q c.of.result (omega (arith, r.few, may.company)) in
+    let is : line_frame after q ≡ c.args.frame.now = cc (at.0, c.of.ensures) in
     record {
       postable = kept_more r.n q r.posted c.enter_posted.new.self.posted r.few r.posted_within may.company c.enter_posted.ensures.posted
-          (λ _. Postable) (line_frame b.lines) (line_frame (set b.lines q c.of.result)) (subst Postable (sym (at.0 ∙ c.of.ensures)) may.postable) (λ i e _. at.1 i e) b.postable;
+          (λ _. Postable) (line_frame b.lines) (line_frame after) (subst Postable (sym is) may.postable) (λ i e _. at.1 i e) b.postable;
     }
 
 pub returns-clause-meaning : goal.returns-clause-meaning
 returns-clause-meaning c =
     let b = c.args.self.now in
     let q = c.args.q.0 in
-    let at = line_replaced b.lines q c.of.result (omega (arith, b.roster.few, c.in_ok-check_posting.ensures.company)) in
-    c.enter_posted.ensures.meaning (line_frame b.lines) (line_frame (set b.lines q c.of.result)) (λ i e _. at.1 i e)
-    ∙ ap (λ f. carrying q f (board_meaning b)) (at.0 ∙ c.of.ensures)
-    ∙ posting_ok q _ (board_meaning b) (c.in_ok-check_posting.ensures.answer (line_frame b.lines))
+    let f = c.args.frame.now in
+    let after = set b.lines q c.of.result in
+    let may = c.in_ok-check_posting.ensures in
+    let at = line_replaced b.lines q c.of.result (omega (arith, b.roster.few, may.company)) in
+    let is : line_frame after q ≡ f = cc (at.0, c.of.ensures) in
+    let posts = c.enter_posted.ensures.meaning (line_frame b.lines) (line_frame after) (λ i e _. at.1 i e) in
+    posts ∙ ap (λ g. carrying q g (board_meaning b)) is ∙ posting_ok q f (board_meaning b) (may.answer (line_frame b.lines))

@@ -1,43 +1,40 @@
-use Rattle.std.proofs.Common.{◌+◌, length, ap, ◌∙◌, arith}
+use Rattle.std.proofs.Common.{◌≡◌, length, set, slice_range, ap, ◌∙◌, sym, subst, arith}
+use Rattle.wire.specs.declared.span.Span.{Span}
 use Rattle.wire.specs.Meaning.{carrying}
-use Rattle.wire.specs.Spans.{span_at, tape_frame, Holds}
+use Rattle.wire.specs.Spans.{span_at, tape_frame, Within, Holds}
 use Rattle.wire.specs.Tapes.{tape_meaning}
-use Rattle.wire.proofs.Shown.{entered_counts, kept_more}
+use Rattle.wire.proofs.Shown.{entered_counts, everywhere, kept_more, replaced}
 use Rattle.wire.proofs.Posts.{posting_ok}
-use Rattle.wire.proofs.Tapes.{writing, after, written, there, room_left, kept_frame, kept_holds, written_frame, written_holds, written_within}
+use Rattle.wire.proofs.Tapes.{room_left}
 use Rattle.wire.proofs.tape_wire.TapeWire.post.Goals as goal
 
-pub overflow_add-end : goal.overflow_add-end
-overflow_add-end c =
+pub append-span-requires : goal.append-span-requires
+append-span-requires c =
     let may = c.in_ok-check_posting.ensures in
-    omega (arith, room_left c.args.self.now c.args.q.0 c.args.frame.now may.company may.vacant may.postable)
-
-pub slice_bounds-copy_from_slice-end : goal.slice_bounds-copy_from_slice-end
-slice_bounds-copy_from_slice-end c =
-    let may = c.in_ok-check_posting.ensures in
-    omega (arith, room_left c.args.self.now c.args.q.0 c.args.frame.now may.company may.vacant may.postable)
+    omega (arith, may.postable, room_left c.args.self.now c.args.q.0 may.company may.vacant)
 
 pub invariant_of-self-clause-within : goal.invariant_of-self-clause-within
 invariant_of-self-clause-within c =
     let t = c.args.self.now in
-    let q = c.args.q.0 in
-    let f = c.args.frame.now in
-    let part = c.copy_from_slice.new.self in
     let may = c.in_ok-check_posting.ensures in
-    written_within t q f part (writing t q f part may.company may.vacant may.postable c.copy_from_slice.ensures.after (omega arith) (omega arith))
+    everywhere (Within (length c.append-span.new.bytes)) t.spans c.args.q.0 c.append-span.result (record { start = 0; end = 0 })
+    (omega (arith, t.roster.few, may.company))
+    (omega arith, omega (arith, may.postable, room_left t c.args.q.0 may.company may.vacant))
+    (λ i. (omega (arith, t.within i), omega (arith, t.within i)))
 
 pub invariant_of-self-clause-holds : goal.invariant_of-self-clause-holds
 invariant_of-self-clause-holds c =
     let t = c.args.self.now in
     let r = t.roster in
     let q = c.args.q.0 in
-    let f = c.args.frame.now in
-    let part = c.copy_from_slice.new.self in
+    let s = c.append-span.result in
     let may = c.in_ok-check_posting.ensures in
-    let w = writing t q f part may.company may.vacant may.postable c.copy_from_slice.ensures.after (omega arith) (omega arith) in
+    let at = replaced t.spans q s (record { start = 0; end = 0 }) (omega (arith, r.few, may.company)) in
     kept_more r.n q r.posted c.enter_posted.new.self.posted r.few r.posted_within may.company c.enter_posted.ensures.posted
-    (λ _. Holds (t.used + length f)) (span_at t.spans) (span_at (after t q f part w))
-    (written_holds t q f part w) (λ i e _. (there t q f part w).1 i e) (kept_holds t q f part w)
+    (λ _. Holds s.end) (span_at t.spans) (span_at (set t.spans q s))
+    (subst (Holds s.end) (sym at.0) (omega (arith, may.postable), omega (arith, may.postable), omega arith))
+    (λ i e _. at.1 i e)
+    (λ i m. (omega (arith, t.holds i m), omega (arith, t.holds i m), omega (arith, t.holds i m)))
 
 pub invariant_of-self-clause-room : goal.invariant_of-self-clause-room
 invariant_of-self-clause-room c =
@@ -50,10 +47,13 @@ pub returns-clause-meaning : goal.returns-clause-meaning
 returns-clause-meaning c =
     let t = c.args.self.now in
     let q = c.args.q.0 in
+    let s = c.append-span.result in
     let f = c.args.frame.now in
-    let part = c.copy_from_slice.new.self in
+    let bytes = c.append-span.new.bytes in
     let may = c.in_ok-check_posting.ensures in
-    let w = writing t q f part may.company may.vacant may.postable c.copy_from_slice.ensures.after (omega arith) (omega arith) in
-    c.enter_posted.ensures.meaning (tape_frame t.spans t.bytes) (tape_frame (after t q f part w) (written t q f part w)) (kept_frame t q f part w)
-    ∙ ap (λ g. carrying q g (tape_meaning t)) (written_frame t q f part w)
+    let at = replaced t.spans q s (record { start = 0; end = 0 }) (omega (arith, t.roster.few, may.company)) in
+    let stands : slice_range bytes s.start s.end ≡ f = grind arith in
+    c.enter_posted.ensures.meaning (tape_frame t.spans t.bytes) (tape_frame (set t.spans q s) bytes)
+    (λ i e m. ap (λ (x : Span). slice_range bytes x.start x.end) (at.1 i e) ∙ c.append-span.ensures.kept _ _ (omega (arith, t.holds i m)))
+    ∙ ap (λ g. carrying q g (tape_meaning t)) (ap (λ (x : Span). slice_range bytes x.start x.end) at.0 ∙ stands)
     ∙ posting_ok q f (tape_meaning t) (may.answer (tape_frame t.spans t.bytes))
