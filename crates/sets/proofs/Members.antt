@@ -1,11 +1,11 @@
 -- Members of sets that tests make. Assumes nothing.
-use Rattle.std.proofs.Common.{◌≡◌, ℕ, ◌^◌, ◌<◌, ◌≤◌, Bool, true, false, not, ◌&&◌, leb, refl, ap, ◌∙◌, lt_of_lt_of_le, pow_mono, arith}
+use Rattle.std.proofs.Common.{◌≡◌, ℕ, suc, ◌^◌, ◌<◌, ◌≤◌, Bool, true, false, not, ◌&&◌, ◌||◌, eqb, leb, ltb, refl, ap, ◌∙◌, lt_of_lt_of_le, pow_mono, arith}
 use Rattle.std.proofs.lemmas.Bool.Decides.{nat_tests}
 use Rattle.sets.specs.declared.set.BoxSet.{BoxSet}
 use Rattle.sets.specs.Tests.{any, count}
 use Rattle.sets.specs.Masks.{member, set_of}
 use Rattle.sets.proofs.Bits.{bit_high, bit-mask_of, mask_below, set_is}
-use Rattle.sets.proofs.Counts.{any_none, count_ext, count_le, count_none}
+use Rattle.sets.proofs.Counts.{any_none, count_ext, count_le, count_more, count_none}
 
 -- whether a number below 32 is in the set that a test makes
 pub member_is : (P : ℕ → Bool) (s : BoxSet) → s ≡ set_of P → (i : ℕ) → i < 32 → member s i ≡ P i
@@ -40,3 +40,22 @@ none_beyond n s h e =
     let f = any_none (λ k. member s k && leb n k) 32 e i in
     let b = bit_high 32 s.mask i h in
     grind (arith, nat_tests))
+
+-- all of a company are of it
+pub all_within : (n : ℕ) (s : BoxSet) → s ≡ set_of (λ i. ltb i n) → s.mask < 2 ^ n
+all_within n s e = (mask_below n s.mask).1 (λ i l. member_only (λ k. ltb k n) (λ k. ltb k n) s e (λ k t. t) i (grind (arith, nat_tests)))
+
+-- where box q enters a set
+module _ (n q : ℕ) (s t : BoxSet) (few : n ≤ 32) (h : s.mask < 2 ^ n) (l : q < n) (e : t ≡ set_of (λ i. member s i || eqb i q)) where
+  pub entering : (i : ℕ) → member t i ≡ (member s i || eqb i q)
+  entering i =
+      let m = bit-mask_of (λ k. member s k || eqb k q) 32 i in
+      let r : member t i ≡ member (set_of (λ k. member s k || eqb k q)) i = ap (λ z. member z i) e in
+      let b = bit_high n s.mask i h in
+      grind (arith, nat_tests)
+
+  pub entered_within : t.mask < 2 ^ n
+  entered_within = (mask_below n t.mask).1 (λ i m. let b = bit_high n s.mask i h m in let r = entering i in grind (arith, nat_tests))
+
+  pub entered_counts : member s q ≡ false → count (member t) 32 ≡ suc (count (member s) 32)
+  entered_counts f = count_ext (member t) (λ k. member s k || eqb k q) 32 (λ k _. entering k) ∙ count_more (member s) 32 q (omega arith) f

@@ -1,3 +1,4 @@
+pub mod Lists
 pub mod Shown
 pub mod Posts
 pub mod Tapes

@@ -4,7 +4,7 @@ use Rattle.std.proofs.lemmas.List.{map-set, length-map}
 use Rattle.wire.specs.declared.line.Line.{Line}
 use Rattle.wire.specs.Meaning.{Meaning, posting, carrying, answer, or_kept}
 use Rattle.wire.specs.Lines.{frame_on, line_frame}
-use Rattle.wire.proofs.Shown.{replaced}
+use Rattle.wire.proofs.Lists.{replaced}
 
 -- what an accepted posting leaves
 pub posting_ok : (q : ℕ) (f : List ℕ) (m : Meaning) → Ok tt ≡ answer (posting q f m) → carrying q f m ≡ or_kept m (posting q f m)

@@ -1,14 +1,10 @@
 -- What a roster shows, and what a change of it makes of that. Assumes nothing.
-use Rattle.std.proofs.Common.{◌≡◌, ℕ, suc, ◌^◌, ◌<◌, ◌≤◌, Bool, true, false, cond, not, ◌&&◌, ◌||◌, eqb, ltb, List, length, get_or, set, is_some, Some, None, sym, refl, ap, subst, ◌∙◌, ◌⊎◌, inl, inr, arith}
+use Rattle.std.proofs.Common.{◌≡◌, ℕ, ◌^◌, ◌<◌, ◌≤◌, Bool, true, false, cond, not, ◌&&◌, ◌||◌, eqb, List, is_some, Some, None, sym, refl, ap, subst, ◌∙◌, ◌⊎◌, inl, inr, arith}
 use Rattle.std.proofs.lemmas.Bool.{cases_Bool, eqb-true}
-use Rattle.std.proofs.lemmas.Bool.Decides.{nat_tests}
-use Rattle.std.proofs.lemmas.List.{get_or-set_same, get_or-set_other}
 use Rattle.sets.specs.declared.set.BoxSet.{BoxSet}
 use Rattle.sets.specs.Masks.{member, set_of}
-use Rattle.sets.specs.Tests.{count}
-use Rattle.sets.proofs.Counts.{count_ext, count_more}
-use Rattle.sets.proofs.Bits.{bit_high, bit-mask_of, mask_below, set_ext}
-use Rattle.sets.proofs.Members.{member_only, none_member, set_kept}
+use Rattle.sets.proofs.Bits.{bit_high, mask_below, set_ext}
+use Rattle.sets.proofs.Members.{entering, member_only, none_member, set_kept}
 use Rattle.wire.specs.declared.roster.Roster.{Roster}
 use Rattle.wire.specs.Meaning.{Meaning, falling_set, posted_set, closed}
 use Rattle.wire.specs.Rosters.{some_if, shown}
@@ -25,37 +21,12 @@ is_some_if false x = refl
 pub none_if : {X : Type 0} (s : BoxSet) → s ≡ set_of (λ _. false) → (q : ℕ) (x : X) → some_if (member s q) x ≡ None
 none_if s e q x = ap (λ b. some_if b x) (none_member s e q)
 
--- a value in place of another in a list
-pub replaced : {X : Type 0} (xs : List X) (q : ℕ) (x d : X) → q < length xs → (get_or (set xs q x) q d ≡ x) × ((i : ℕ) → eqb i q ≡ false → get_or (set xs q x) i d ≡ get_or xs i d)
-replaced xs q x d l = (get_or-set_same xs q x d l, λ i e. get_or-set_other xs q i x d (λ k. grind (arith, nat_tests)))
-
--- what holds of each value of a list, and of x, holds of each where x is in place of one
-pub everywhere : {X : Type 0} (P : X → Type 0) (xs : List X) (q : ℕ) (x d : X) → q < length xs → P x → ((i : ℕ) → P (get_or xs i d)) → (i : ℕ) → P (get_or (set xs q x) i d)
-everywhere P xs q x d l new old i = go (cases_Bool (eqb i q)) (replaced xs q x d l)
-  where
-    go : (eqb i q ≡ true) ⊎ (eqb i q ≡ false) → (get_or (set xs q x) q d ≡ x) × ((j : ℕ) → eqb j q ≡ false → get_or (set xs q x) j d ≡ get_or xs j d) → P (get_or (set xs q x) i d)
-    go (inl y) at = subst (λ j. P (get_or (set xs q x) j d)) (sym (eqb-true i q y)) (subst P (sym at.0) new)
-    go (inr y) at = subst P (sym (at.1 i y)) (old i)
-
--- where box q enters a set
+-- where box q enters a set of a company
 module _ (n q : ℕ) (s t : BoxSet) (few : n ≤ 32) (h : s.mask < 2 ^ n) (l : q < n) (e : t ≡ set_of (λ i. member s i || eqb i q)) where
-  pub entering : (i : ℕ) → member t i ≡ (member s i || eqb i q)
-  entering i =
-      let m = bit-mask_of (λ k. member s k || eqb k q) 32 i in
-      let r : member t i ≡ member (set_of (λ k. member s k || eqb k q)) i = ap (λ z. member z i) e in
-      let b = bit_high n s.mask i h in
-      grind (arith, nat_tests)
-
-  pub entered_within : t.mask < 2 ^ n
-  entered_within = (mask_below n t.mask).1 (λ i m. let b = bit_high n s.mask i h m in let r = entering i in grind (arith, nat_tests))
-
-  pub entered_counts : member s q ≡ false → count (member t) 32 ≡ suc (count (member s) 32)
-  entered_counts f = count_ext (member t) (λ k. member s k || eqb k q) 32 (λ k _. entering k) ∙ count_more (member s) 32 q (omega arith) f
-
-  -- and what is said of it is x, then that is what is there for it, and for the others what was there, if the same is said of those of s
+  -- if what is said of it is x, then that is what is there for it, and for the others what was there, if the same is said of those of s
   pub entered : {X : Type 0} (f g : ℕ → X) (x : X) → g q ≡ x → ((i : ℕ) → eqb i q ≡ false → member s i ≡ true → g i ≡ f i)
       → (i : ℕ) → some_if (member t i) (g i) ≡ cond (eqb i q) (Some x) (some_if (member s i) (f i))
-  entered {X} f g x now before i = go (cases_Bool (eqb i q)) (entering i)
+  entered {X} f g x now before i = go (cases_Bool (eqb i q)) (entering n q s t few h l e i)
     where
       go : (eqb i q ≡ true) ⊎ (eqb i q ≡ false) → member t i ≡ (member s i || eqb i q) → some_if (member t i) (g i) ≡ cond (eqb i q) (Some x) (some_if (member s i) (f i))
       go (inl y) k = let here : g i ≡ g q = ap g (eqb-true i q y) in grind (arith, now)
@@ -64,15 +35,11 @@ module _ (n q : ℕ) (s t : BoxSet) (few : n ≤ 32) (h : s.mask < 2 ^ n) (l : q
   -- what holds of each box of s holds of each of t, if it holds of q and what is said of the others is what was said
   pub kept_more : {X : Type 0} (P : ℕ → X → Type 0) (f g : ℕ → X) → P q (g q) → ((i : ℕ) → eqb i q ≡ false → member s i ≡ true → g i ≡ f i)
       → ((i : ℕ) → member s i ≡ true → P i (f i)) → (i : ℕ) → member t i ≡ true → P i (g i)
-  kept_more P f g new before old i m = go (cases_Bool (eqb i q)) (entering i)
+  kept_more P f g new before old i m = go (cases_Bool (eqb i q)) (entering n q s t few h l e i)
     where
       go : (eqb i q ≡ true) ⊎ (eqb i q ≡ false) → member t i ≡ (member s i || eqb i q) → P i (g i)
       go (inl y) b = subst (λ j. P j (g j)) (sym (eqb-true i q y)) new
       go (inr y) b = let k : member s i ≡ true = grind arith in subst (P i) (sym (before i y k)) (old i k)
-
--- all of a company are of it
-pub all_within : (n : ℕ) (s : BoxSet) → s ≡ set_of (λ i. ltb i n) → s.mask < 2 ^ n
-all_within n s e = (mask_below n s.mask).1 (λ i l. member_only (λ k. ltb k n) (λ k. ltb k n) s e (λ k t. t) i (grind (arith, nat_tests)))
 
 module _ (r : Roster) where
   -- only boxes of the company are falling

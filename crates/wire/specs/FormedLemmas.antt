@@ -10,7 +10,7 @@ use Rattle.sets.proofs.Bits.{bit_high}
 use Rattle.wire.specs.declared.roster.Roster.{Roster}
 use Rattle.wire.specs.declared.board.Board.{Board}
 use Rattle.wire.specs.declared.tape.Tape.{Tape}
-use Rattle.wire.specs.Kept.{set_at, Loses, Postable}
+use Rattle.wire.specs.Kept.{set_at, Falls, Postable}
 use Rattle.wire.specs.Meaning.{WellFormed}
 use Rattle.wire.specs.Rosters.{some_if, shown}
 use Rattle.wire.specs.Lines.{line_frame}
@@ -27,8 +27,8 @@ shown_formed r frames postable = record {
   posted = λ q f e. stands q f (cases_Bool (member r.posted q)) e;
 }
   where
-    lost : (q : ℕ) (s : BoxSet) → (member r.falling q ≡ true) ⊎ (member r.falling q ≡ false) → some_if (member r.falling q) (set_at r.lost q) ≡ Some s → Loses r.n r.up q s
-    lost q s (inl t) e = subst (Loses r.n r.up q) (grind (arith, t, e)) (r.losing q t)
+    lost : (q : ℕ) (s : BoxSet) → (member r.falling q ≡ true) ⊎ (member r.falling q ≡ false) → some_if (member r.falling q) (set_at r.lost q) ≡ Some s → Falls r.n r.up q s
+    lost q s (inl t) e = subst (Falls r.n r.up q) (grind (arith, t, e)) (r.losing q t)
     lost q s (inr t) e = absurd (grind (arith, t, e))
 
     stands : (q : ℕ) (f : List ℕ) → (member r.posted q ≡ true) ⊎ (member r.posted q ≡ false) → some_if (member r.posted q) (frames q) ≡ Some f → (q < r.n) × Postable f

@@ -8,9 +8,9 @@ use Rattle.frames.specs.Frames.{longest_frame}
 abbrev pub set_at : List BoxSet → ℕ → BoxSet
 set_at sets q = get_or sets q (record { mask = 0 })
 
--- in a company of n boxes where these are up, box q may be falling and lose the boxes of s
-abbrev pub Loses : ℕ → BoxSet → ℕ → BoxSet → Type 0
-Loses n up q s = (member up q ≡ true) × (s.mask < 2 ^ n) × (member s q ≡ false)
+-- in a company of n boxes of which these are up, box q may be falling with s for its lost set
+abbrev pub Falls : ℕ → BoxSet → ℕ → BoxSet → Type 0
+Falls n up q s = (member up q ≡ true) × (s.mask < 2 ^ n) × (member s q ≡ false)
 
 -- these bytes may stand posted
 abbrev pub Postable : List ℕ → Type 0

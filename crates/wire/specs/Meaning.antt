@@ -9,10 +9,10 @@ use Rattle.sets.specs.Companies.{company_size}
 use Rattle.sets.specs.Tests.{any}
 use Rattle.sets.specs.Masks.{member, set_of}
 use Rattle.frames.specs.Frames.{longest_frame}
-use Rattle.wire.specs.Kept.{Loses, Postable}
+use Rattle.wire.specs.Kept.{Falls, Postable}
 
--- what a wire is at some moment: how many boxes it joins, which are up, what each box that is falling loses (the boxes that do not hear
--- what it sends), and the bytes that each box has posted. A box that is not falling, or has not posted, has none
+-- what a wire is at some moment: how many boxes it joins, which of them are up, the lost set of each box that is falling, which are the boxes
+-- that do not hear what it sends, and the bytes that each box has posted. A box that is not falling, or has not posted, has none
 pub record Meaning : Type 0 where
   pub n : ℕ
   pub up : BoxSet
@@ -30,7 +30,7 @@ posted_set m = set_of (λ i. is_some (m.posted i))
 pub record WellFormed (m : Meaning) : Type 0 where
   pub size : company_size m.n ≡ true
   pub up_within : m.up.mask < 2 ^ m.n
-  pub falling : (q : ℕ) (s : BoxSet) → m.lost q ≡ Some s → Loses m.n m.up q s
+  pub falling : (q : ℕ) (s : BoxSet) → m.lost q ≡ Some s → Falls m.n m.up q s
   pub posted : (q : ℕ) (f : List ℕ) → m.posted q ≡ Some f → (q < m.n) × Postable f
 
 -- ---- making one
@@ -61,7 +61,7 @@ bad_lost m q s = any (λ i. member s i && nat_le m.n i) 32 || member s q
 abbrev pub fallen : ℕ → BoxSet → Meaning → Meaning
 fallen q s m = record m { lost = λ i. cond (i == q) (Some s) (m.lost i) }
 
--- box q falls and loses the boxes of s
+-- box q falls, with s for its lost set
 unfoldable pub falling : ℕ → BoxSet → Meaning → Result Meaning Refusal
 falling q s m =
     unless
@@ -97,14 +97,14 @@ or_kept m r = result_unwrap_or r m
 
 -- ---- fetching
 
--- whether box p is among those that do not hear
-abbrev pub names : Option BoxSet → ℕ → Bool
-names None p = false
-names (Some s) p = member s p
+-- whether box p is in the lost set of a box, if it has one
+abbrev pub lost_to : Option BoxSet → ℕ → Bool
+lost_to None p = false
+lost_to (Some s) p = member s p
 
--- what box p hears of box q: nothing where q posted none, or is falling and loses p
+-- what box p hears of box q: nothing where q posted none, or is falling with p in its lost set
 abbrev pub heard : Meaning → (p q : ℕ) → Option (List ℕ)
-heard m p q = cond (names (m.lost q) p) None (m.posted q)
+heard m p q = cond (lost_to (m.lost q) p) None (m.posted q)
 
 -- what is given to p of q where there is room for so many bytes
 unfoldable pub fetching : (p q room : ℕ) → Meaning → Result (Option (List ℕ)) Refusal

@@ -1,7 +1,7 @@
 // The roster of a wire: all that a wire means but the bytes. Its contracts say what it makes of that meaning, whatever the bytes are.
 ghost use Rattle.std.specs.Prelude.{◌≡◌, ℕ, ◌^◌, ◌<◌, ◌≤◌, true};
 ghost use Rattle.sets.specs.Masks.{member};
-ghost use Rattle.wire.specs.Kept.{set_at, Loses};
+ghost use Rattle.wire.specs.Kept.{set_at, Falls};
 
 use frames::LONGEST_FRAME;
 use numbers::Refusal;
@@ -15,13 +15,13 @@ pub(crate) struct Roster {
     pub n: u32,
     pub up: BoxSet,
     pub falling: BoxSet,
-    // What a box loses by its number; of no meaning where it is not falling.
+    // The lost set of a box by its number; of no meaning where it is not falling.
     pub lost: [BoxSet; PLACES],
     pub posted: BoxSet,
     ghost several: { 2 ≤ n },
     ghost few: { n ≤ 32 },
     ghost up_within: { up.mask < 2 ^ n },
-    ghost losing: { (q : ℕ) → member falling q ≡ true → Loses n up q (set_at lost q) },
+    ghost losing: { (q : ℕ) → member falling q ≡ true → Falls n up q (set_at lost q) },
     ghost posted_within: { posted.mask < 2 ^ n },
 }
 

@@ -1,5 +1,5 @@
-// What joins the boxes of a company. Code above sees a wire by its meaning alone: which boxes are up, what each box that is falling loses,
-// and what each has posted.
+// What joins the boxes of a company. Code above sees a wire by its meaning alone: which boxes are up, the lost set of each box that is
+// falling (the boxes that do not hear what it sends), and what each has posted.
 ghost use Rattle.std.specs.Prelude.{◌≡◌, length};
 ghost use Rattle.wire.specs.Meaning.{Meaning, WellFormed, falling_set, posted_set, opened, closed, falling, posting, answer, or_kept, fetching, told, laid};
 
@@ -28,7 +28,7 @@ pub trait Wire {
     fn open(&mut self)
         ensures { meaning self.new ≡ opened (meaning self.old) };
 
-    // Box q falls: what it sends in this round does not reach the boxes of the lost set.
+    // Box q falls; it may still post in this round, but the boxes of its lost set do not hear it.
     fn fall(&mut self, q: BoxNumber, lost: BoxSet) -> Result<(), Refusal>
         ensures answer { result ≡ answer (falling q.0 lost (meaning self.old)) }
         ensures meaning { meaning self.new ≡ or_kept (meaning self.old) (falling q.0 lost (meaning self.old)) };

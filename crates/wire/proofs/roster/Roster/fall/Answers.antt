@@ -3,10 +3,11 @@ use Rattle.std.proofs.lemmas.Bool.Decides.{nat_tests}
 use Rattle.sets.specs.Tests.{any}
 use Rattle.sets.specs.Masks.{member}
 use Rattle.sets.proofs.Members.{none_beyond}
-use Rattle.wire.specs.Kept.{set_at, Loses}
+use Rattle.wire.specs.Kept.{set_at, Falls}
 use Rattle.wire.specs.Meaning.{falling, fallen, or_kept}
 use Rattle.wire.specs.Rosters.{shown}
-use Rattle.wire.proofs.Shown.{entered, falling_within, kept_more, meaning_ext, replaced}
+use Rattle.wire.proofs.Lists.{replaced}
+use Rattle.wire.proofs.Shown.{entered, falling_within, kept_more, meaning_ext}
 use Rattle.wire.proofs.roster.Roster.fall.Goals as goal
 
 pub invariant_of-self-clause-losing : goal.invariant_of-self-clause-losing
@@ -15,10 +16,10 @@ invariant_of-self-clause-losing c =
     let q = c.args.q.0 in
     let s = c.args.lost in
     let below : any (λ i. member s i && leb r.n i) 32 ≡ false = grind arith in
-    let loses : Loses r.n r.up q s = (grind arith, none_beyond r.n s (omega arith) below, grind arith) in
+    let loses : Falls r.n r.up q s = (grind arith, none_beyond r.n s (omega arith) below, grind arith) in
     let at = replaced r.lost q s (record { mask = 0 }) (omega arith) in
     kept_more r.n q r.falling c.with-self.result r.few (falling_within r) (omega arith) c.with-self.ensures
-    (Loses r.n r.up) (set_at r.lost) (set_at (set r.lost q s)) (subst (Loses r.n r.up q) (sym at.0) loses) (λ i e _. at.1 i e) r.losing
+    (Falls r.n r.up) (set_at r.lost) (set_at (set r.lost q s)) (subst (Falls r.n r.up q) (sym at.0) loses) (λ i e _. at.1 i e) r.losing
 
 pub returns-clause-meaning : goal.returns-clause-meaning
 unfolding falling

@@ -1,8 +1,8 @@
 use Rattle.std.proofs.Common.{◌≡◌, true, Ok, ap, refl, arith}
 use Rattle.sets.specs.Companies.{company_size}
-use Rattle.sets.proofs.Members.{none_below, none_member}
+use Rattle.sets.proofs.Members.{all_within, none_below, none_member}
 use Rattle.wire.specs.Meaning.{making}
-use Rattle.wire.proofs.Shown.{meaning_ext, none_if, all_within}
+use Rattle.wire.proofs.Shown.{meaning_ext, none_if}
 use Rattle.wire.proofs.roster.Roster.new.Goals as goal
 
 pub invariant_of-result-clause-up_within : goal.invariant_of-result-clause-up_within

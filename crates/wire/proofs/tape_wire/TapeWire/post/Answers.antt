@@ -3,7 +3,9 @@ use Rattle.wire.specs.declared.span.Span.{Span}
 use Rattle.wire.specs.Meaning.{carrying}
 use Rattle.wire.specs.Spans.{span_at, tape_frame, Within, Holds}
 use Rattle.wire.specs.Tapes.{tape_meaning}
-use Rattle.wire.proofs.Shown.{entered_counts, everywhere, kept_more, replaced}
+use Rattle.sets.proofs.Members.{entered_counts}
+use Rattle.wire.proofs.Lists.{everywhere, replaced}
+use Rattle.wire.proofs.Shown.{kept_more}
 use Rattle.wire.proofs.Posts.{posting_ok}
 use Rattle.wire.proofs.Tapes.{room_left}
 use Rattle.wire.proofs.tape_wire.TapeWire.post.Goals as goal
