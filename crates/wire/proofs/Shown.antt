@@ -21,6 +21,9 @@ is_some_if false x = refl
 pub none_if : {X : Type 0} (s : BoxSet) → s ≡ set_of (λ _. false) → (q : ℕ) (x : X) → some_if (member s q) x ≡ None
 none_if s e q x = ap (λ b. some_if b x) (none_member s e q)
 
+pub absent : {A : Type 0} (s : BoxSet) → s ≡ set_of (λ _. false) → (q : ℕ) → member s q ≡ true → A
+absent s e q t = let f = none_member s e q in absurd (grind arith)
+
 -- where box q enters a set of a company
 module _ (n q : ℕ) (s t : BoxSet) (few : n ≤ 32) (h : s.mask < 2 ^ n) (l : q < n) (e : t ≡ set_of (λ i. member s i || eqb i q)) where
   -- if what is said of it is x, then that is what is there for it, and for the others what was there, if the same is said of those of s

@@ -10,7 +10,7 @@ use Rattle.sets.proofs.Bits.{bit_high}
 use Rattle.wire.specs.declared.roster.Roster.{Roster}
 use Rattle.wire.specs.declared.board.Board.{Board}
 use Rattle.wire.specs.declared.tape.Tape.{Tape}
-use Rattle.wire.specs.Kept.{set_at, Falls, Postable}
+use Rattle.wire.specs.Kept.{set_at, Falls, is_postable}
 use Rattle.wire.specs.Meaning.{WellFormed}
 use Rattle.wire.specs.Rosters.{some_if, shown}
 use Rattle.wire.specs.Lines.{line_frame}
@@ -19,7 +19,7 @@ use Rattle.wire.specs.Spans.{span_at, tape_frame}
 use Rattle.wire.specs.Tapes.{tape_meaning}
 
 -- a wire with this roster is well formed, if what stands posted is postable
-shown_formed : (r : Roster) (frames : ℕ → List ℕ) → ((q : ℕ) → member r.posted q ≡ true → Postable (frames q)) → WellFormed (shown r frames)
+shown_formed : (r : Roster) (frames : ℕ → List ℕ) → ((q : ℕ) → member r.posted q ≡ true → is_postable (frames q) ≡ true) → WellFormed (shown r frames)
 shown_formed r frames postable = record {
   size = grind (arith, nat_tests, r.several, r.few);
   up_within = r.up_within;
@@ -31,8 +31,10 @@ shown_formed r frames postable = record {
     lost q s (inl t) e = subst (Falls r.n r.up q) (grind (arith, t, e)) (r.losing q t)
     lost q s (inr t) e = absurd (grind (arith, t, e))
 
-    stands : (q : ℕ) (f : List ℕ) → (member r.posted q ≡ true) ⊎ (member r.posted q ≡ false) → some_if (member r.posted q) (frames q) ≡ Some f → (q < r.n) × Postable f
-    stands q f (inl t) e = (grind (arith, nat_tests, bit_high r.n r.posted.mask q r.posted_within), subst Postable (grind (arith, t, e)) (postable q t))
+    stands : (q : ℕ) (f : List ℕ) → (member r.posted q ≡ true) ⊎ (member r.posted q ≡ false) → some_if (member r.posted q) (frames q) ≡ Some f → (q < r.n) × (is_postable f ≡ true)
+    stands q f (inl t) e =
+        let is : frames q ≡ f = grind (arith, t, e) in
+        (grind (arith, nat_tests, bit_high r.n r.posted.mask q r.posted_within), subst (λ g. is_postable g ≡ true) is (postable q t))
     stands q f (inr t) e = absurd (grind (arith, t, e))
 
 pub board_formed : (b : Board) → WellFormed (board_meaning b)
@@ -40,8 +42,8 @@ board_formed b = shown_formed b.roster (line_frame b.lines) b.postable
 
 pub tape_formed : (t : Tape) → WellFormed (tape_meaning t)
 tape_formed t =
-    shown_formed t.roster (tape_frame t.spans t.bytes) (λ q p.
+    shown_formed t.roster (tape_frame t.spans t.frames.items) (λ q p.
     let h = t.holds q p in
-    let w = t.within q in
-    let l : length (tape_frame t.spans t.bytes q) ≡ (span_at t.spans q).end - (span_at t.spans q).start = length-between t.bytes (span_at t.spans q).start (span_at t.spans q).end w.1 in
-    (omega arith, omega arith))
+    let s = span_at t.spans q in
+    let l : length (tape_frame t.spans t.frames.items q) ≡ s.end - s.start = length-between t.frames.items s.start s.end h.2 in
+    grind (arith, nat_tests))

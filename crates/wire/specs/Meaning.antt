@@ -1,18 +1,18 @@
 -- What a wire means, and what each call makes of it. Assumes nothing.
-use Rattle.std.specs.Prelude.{◌≡◌, ℕ, ◌^◌, ◌<◌, Bool, true, false, cond, not, ◌&&◌, ◌||◌, ⊤, List, [], ◌∷◌, ◌++◌, length, drop, is_some, Some, None, Option, unwrap_or, option_map, Ok, Err, Result, ◌==◌, nat_le, nat_lt}
+use Rattle.std.specs.Prelude.{◌≡◌, ℕ, ◌^◌, ◌<◌, Bool, true, false, cond, not, ◌&&◌, ◌||◌, ⊤, List, [], ◌∷◌, length, is_some, Some, None, Option, unwrap_or, option_map, Ok, Err, Result, ◌==◌, nat_le, nat_lt}
 use Rattle.std.specs.Result.{result_map_both, result_unwrap_or}
 use Rattle.numbers.specs.declared.refusal.Refusal.{Refusal}
 use Rattle.numbers.specs.declared.refusal.Refusal.TheVariants as refusal
 use Rattle.numbers.specs.Refusals.{unless}
+use Rattle.numbers.specs.Numbers.{fronted}
 use Rattle.sets.specs.declared.set.BoxSet.{BoxSet}
 use Rattle.sets.specs.Companies.{company_size}
 use Rattle.sets.specs.Tests.{any}
 use Rattle.sets.specs.Masks.{member, set_of}
-use Rattle.frames.specs.Frames.{longest_frame}
-use Rattle.wire.specs.Kept.{Falls, Postable}
+use Rattle.wire.specs.Kept.{Falls, is_postable}
 
--- what a wire is at some moment: how many boxes it joins, which of them are up, the lost set of each box that is falling, which are the boxes
--- that do not hear what it sends, and the bytes that each box has posted. A box that is not falling, or has not posted, has none
+-- what a wire is at some moment: how many boxes it joins, which of them are up, the lost set of each box that is falling (the boxes that do
+-- not hear what it posts), and the bytes that each box has posted. A box that is not falling has no lost set, one that has not posted no bytes
 pub record Meaning : Type 0 where
   pub n : ℕ
   pub up : BoxSet
@@ -31,7 +31,7 @@ pub record WellFormed (m : Meaning) : Type 0 where
   pub size : company_size m.n ≡ true
   pub up_within : m.up.mask < 2 ^ m.n
   pub falling : (q : ℕ) (s : BoxSet) → m.lost q ≡ Some s → Falls m.n m.up q s
-  pub posted : (q : ℕ) (f : List ℕ) → m.posted q ≡ Some f → (q < m.n) × Postable f
+  pub posted : (q : ℕ) (f : List ℕ) → m.posted q ≡ Some f → (q < m.n) × (is_postable f ≡ true)
 
 -- ---- making one
 
@@ -83,7 +83,7 @@ posting q f m =
     ((nat_le m.n q, refusal.Stranger)
     ∷ (not (member m.up q), refusal.Down)
     ∷ (is_some (m.posted q), refusal.Posted)
-    ∷ (length f == 0 || nat_lt longest_frame (length f), refusal.Narrow)
+    ∷ (not (is_postable f), refusal.Narrow)
     ∷ [])
     (carrying q f m)
 
@@ -97,14 +97,18 @@ or_kept m r = result_unwrap_or r m
 
 -- ---- fetching
 
--- whether box p is in the lost set of a box, if it has one
-abbrev pub lost_to : Option BoxSet → ℕ → Bool
-lost_to None p = false
-lost_to (Some s) p = member s p
+-- whether there is such a set and the box is in it
+abbrev pub is_in : ℕ → Option BoxSet → Bool
+is_in p None = false
+is_in p (Some s) = member s p
 
--- what box p hears of box q: nothing where q posted none, or is falling with p in its lost set
+-- whether what box q posts is lost to box p: q is falling with p in its lost set
+abbrev pub is_lost : Meaning → (p q : ℕ) → Bool
+is_lost m p q = is_in p (m.lost q)
+
+-- what box p hears of box q: nothing where q posted none or it is lost to p
 abbrev pub heard : Meaning → (p q : ℕ) → Option (List ℕ)
-heard m p q = cond (lost_to (m.lost q) p) None (m.posted q)
+heard m p q = cond (is_lost m p q) None (m.posted q)
 
 -- what is given to p of q where there is room for so many bytes
 unfoldable pub fetching : (p q room : ℕ) → Meaning → Result (Option (List ℕ)) Refusal
@@ -119,8 +123,8 @@ fetching p q room m =
 abbrev pub told : Result (Option (List ℕ)) Refusal → Result (Option ℕ) Refusal
 told r = result_map_both (option_map length) (λ e. e) r
 
--- what the bytes given hold then: the frame at their front, and what stood behind; or what they held
+-- what the bytes given hold then
 abbrev pub laid : Result (Option (List ℕ)) Refusal → List ℕ → List ℕ
-laid (Ok (Some f)) out = f ++ drop (length f) out
+laid (Ok (Some f)) out = fronted f out
 laid (Ok None) out = out
 laid (Err e) out = out

@@ -1,4 +1,4 @@
--- What a wire means that has this roster and these frames. Assumes nothing.
+-- What a roster tells of a wire. Assumes nothing.
 use Rattle.std.specs.Prelude.{ℕ, Bool, cond, ◌||◌, List, [], ◌∷◌, is_some, Some, None, Option, Result, nat_le}
 use Rattle.numbers.specs.declared.refusal.Refusal.{Refusal}
 use Rattle.numbers.specs.declared.refusal.Refusal.TheVariants.{Stranger}
@@ -8,11 +8,11 @@ use Rattle.wire.specs.declared.roster.Roster.{Roster}
 use Rattle.wire.specs.Kept.{set_at}
 use Rattle.wire.specs.Meaning.{Meaning, heard}
 
--- x where there is one
+-- x if the test passes
 abbrev pub some_if : {X : Type 0} → Bool → X → Option X
 some_if b x = cond b (Some x) None
 
--- by a roster, and by what bytes would be those of each box that has posted
+-- the meaning of a wire with this roster, on which these are the bytes of each box that has posted
 abbrev pub shown : Roster → (ℕ → List ℕ) → Meaning
 shown r frames = record {
   n = r.n;

@@ -1,20 +1,31 @@
 -- The frames that stand on a tape. Assumes nothing.
-use Rattle.std.specs.Prelude.{ℕ, ◌+◌, ◌≤◌, List, get_or, slice_range}
+use Rattle.std.specs.Prelude.{◌≡◌, ℕ, zero, suc, ◌+◌, ◌-◌, ◌≤◌, Bool, true, cond, ◌||◌, List, get_or, slice_range, ◌==◌, nat_le}
 use Rattle.frames.specs.Frames.{longest_frame}
 use Rattle.wire.specs.declared.span.Span.{Span}
 
+abbrev pub no_span : Span
+no_span = record { start = 0; end = 0 }
+
 -- the span of box q; past the end of the list, an empty one
 abbrev pub span_at : List Span → ℕ → Span
-span_at spans q = get_or spans q (record { start = 0; end = 0 })
+span_at spans q = get_or spans q no_span
+
+abbrev pub span_length : List Span → ℕ → ℕ
+span_length spans q = (span_at spans q).end - (span_at spans q).start
 
 -- the frame of box q, where each box has its span of these bytes
 abbrev pub tape_frame : List Span → List ℕ → ℕ → List ℕ
 tape_frame spans bytes q = slice_range bytes (span_at spans q).start (span_at spans q).end
 
--- the span is one of so many bytes
-abbrev pub Within : ℕ → Span → Type 0
-Within room s = (s.start ≤ s.end) × (s.end ≤ room)
-
--- and a frame may stand there
+-- a frame may stand in the span, of so many bytes
 abbrev pub Holds : ℕ → Span → Type 0
 Holds room s = (s.start + 1 ≤ s.end) × (s.end ≤ s.start + longest_frame) × (s.end ≤ room)
+
+-- no byte is in the spans of two boxes that pass
+abbrev pub Apart : (ℕ → Bool) → (ℕ → Span) → Type 0
+Apart P span = (p q : ℕ) → P p ≡ true → P q ≡ true → (p == q || nat_le (span p).end (span q).start || nat_le (span q).end (span p).start) ≡ true
+
+-- the sum of f over the numbers below n that pass
+unfoldable pub total : (ℕ → Bool) → (ℕ → ℕ) → ℕ → ℕ
+total P f zero = 0
+total P f (suc n) = cond (P 0) (f 0) 0 + total (λ k. P (suc k)) (λ k. f (suc k)) n

@@ -5,4 +5,4 @@ use Rattle.wire.specs.Meaning.{Meaning}
 use Rattle.wire.specs.Rosters.{shown}
 
 abbrev pub tape_meaning : Tape → Meaning
-tape_meaning t = shown t.roster (tape_frame t.spans t.bytes)
+tape_meaning t = shown t.roster (tape_frame t.spans t.frames.items)

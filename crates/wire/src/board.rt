@@ -1,20 +1,22 @@
 // The board: a wire that has a place of fixed size for the frame of each box.
 ghost use Rattle.std.specs.Prelude.{◌≡◌, ℕ, true};
 ghost use Rattle.sets.specs.Masks.{member};
-ghost use Rattle.wire.specs.Kept.{Postable};
+ghost use Rattle.wire.specs.Kept.{is_postable};
 ghost use Rattle.wire.specs.Lines.{line_frame};
 
-use super::line::Line;
 use super::roster::{PLACES, Roster};
+use arrayvec::ArrayVec;
+use frames::LONGEST_FRAME;
 use numbers::Refusal;
 use sets::BoxNumber;
+use std::array;
 
 #[derive(Drop, Debug)]
 pub struct Board {
     pub(crate) roster: Roster,
     // By the number of the box; of no meaning where it has not posted.
-    pub(crate) lines: [Line; PLACES],
-    ghost postable: { (q : ℕ) → member roster.posted q ≡ true → Postable (line_frame lines q) },
+    pub(crate) lines: [ArrayVec<u8, LONGEST_FRAME>; PLACES],
+    ghost postable: { (q : ℕ) → member roster.posted q ≡ true → is_postable (line_frame lines q) ≡ true },
 }
 
 impl Board {
@@ -28,7 +30,7 @@ impl Board {
     {
         Ok(Board {
             roster: Roster::new(n)?,
-            lines: [Line::empty(); PLACES],
+            lines: array::from_fn(|_| ArrayVec::new()),
         })
     }
 
@@ -37,7 +39,7 @@ impl Board {
         ensures { result.now ≡ line_frame self.now.lines q.0 }
     {
         match self.lines.get(q.0 as usize) {
-            Some(line) => line.frame(),
+            Some(line) => line,
             None => &[],
         }
     }

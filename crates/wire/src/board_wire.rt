@@ -3,8 +3,8 @@ ghost use Rattle.wire.specs.Boards.{board_meaning};
 ghost use Rattle.wire.specs.FormedLemmas.{board_formed};
 
 use super::board::Board;
-use super::line::Line;
 use super::wire::Wire;
+use arrayvec::ArrayVec;
 use numbers::Refusal;
 use sets::{BoxNumber, BoxSet};
 
@@ -41,7 +41,7 @@ impl Wire for Board {
 
     fn post(&mut self, q: BoxNumber, frame: &[u8]) -> Result<(), Refusal> {
         self.roster.check_posting(q, frame)?;
-        self.lines[q.0 as usize] = Line::of(frame);
+        self.lines[q.0 as usize] = ArrayVec::try_from(frame).unwrap();
         self.roster.enter_posted(q);
         Ok(())
     }

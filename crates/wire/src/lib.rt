@@ -3,7 +3,6 @@
 
 mod board;
 mod board_wire;
-mod line;
 mod roster;
 mod span;
 mod tape;
@@ -12,4 +11,4 @@ mod wire;
 
 pub use board::Board;
 pub use tape::Tape;
-pub use wire::Wire;
+pub use wire::{Wire, is_postable};

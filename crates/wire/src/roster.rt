@@ -3,19 +3,19 @@ ghost use Rattle.std.specs.Prelude.{◌≡◌, ℕ, ◌^◌, ◌<◌, ◌≤◌,
 ghost use Rattle.sets.specs.Masks.{member};
 ghost use Rattle.wire.specs.Kept.{set_at, Falls};
 
-use frames::LONGEST_FRAME;
+use super::wire::is_postable;
 use numbers::Refusal;
 use sets::{BoxNumber, BoxSet, MOST_COMPANY, is_company_size};
 
 // A place for each box that a company can have.
 pub(crate) const PLACES: usize = MOST_COMPANY as usize;
 
-#[derive(Clone, Copy, Debug)]
+#[derive(Drop, Debug)]
 pub(crate) struct Roster {
     pub n: u32,
     pub up: BoxSet,
     pub falling: BoxSet,
-    // The lost set of a box by its number; of no meaning where it is not falling.
+    // The lost set of each box, by its number; of no meaning where it is not falling.
     pub lost: [BoxSet; PLACES],
     pub posted: BoxSet,
     ghost several: { 2 ≤ n },
@@ -29,7 +29,7 @@ impl Roster {
     ghost use Rattle.std.specs.Prelude.{List, length, IfOk, OnOk, false, ◌||◌, ◌==◌};
     ghost use Rattle.std.specs.Result.{result_map_both};
     ghost use Rattle.sets.specs.Masks.{set_of};
-    ghost use Rattle.wire.specs.Kept.{Postable};
+    ghost use Rattle.wire.specs.Kept.{is_postable};
     ghost use Rattle.wire.specs.Meaning.{making, opened, closed, falling, posting, carrying, answer, or_kept, fetching, told, laid};
     ghost use Rattle.wire.specs.Rosters.{shown, reaching};
 
@@ -91,7 +91,7 @@ impl Roster {
         ensures answer { (frames : ℕ → List ℕ) → result ≡ answer (posting q.0 frame.now (shown self.now frames)) }
         ensures company { OnOk result (q.0 < self.now.n) }
         ensures vacant { OnOk result (member self.now.posted q.0 ≡ false) }
-        ensures postable { OnOk result (Postable frame.now) }
+        ensures postable { OnOk result (is_postable frame.now ≡ true) }
     {
         if q.0 >= self.n {
             return Err(Refusal::Stranger);
@@ -102,7 +102,7 @@ impl Roster {
         if self.posted.contains(q) {
             return Err(Refusal::Posted);
         }
-        if frame.is_empty() || frame.len() > LONGEST_FRAME {
+        if !is_postable(frame) {
             return Err(Refusal::Narrow);
         }
         Ok(())
@@ -137,8 +137,8 @@ impl Roster {
         frame: &[u8],
         out: &mut [u8],
     ) -> Result<Option<usize>, Refusal>
-        ensures answer { (frames : ℕ → List ℕ) → frames q.0 ≡ frame.now → result ≡ told (fetching p.0 q.0 (length out.old) (shown self.now frames)) }
-        ensures bytes { (frames : ℕ → List ℕ) → frames q.0 ≡ frame.now → out.new ≡ laid (fetching p.0 q.0 (length out.old) (shown self.now frames)) out.old }
+        ensures answer { (frames : ℕ → List ℕ) → (member self.now.posted q.0 ≡ true → frame.now ≡ frames q.0) → result ≡ told (fetching p.0 q.0 (length out.old) (shown self.now frames)) }
+        ensures bytes { (frames : ℕ → List ℕ) → (member self.now.posted q.0 ≡ true → frame.now ≡ frames q.0) → out.new ≡ laid (fetching p.0 q.0 (length out.old) (shown self.now frames)) out.old }
     {
         if !self.reaches(p, q)? {
             return Ok(None);

@@ -1,30 +1,27 @@
 // The tape: a wire on which frames of their own length follow one another as posted.
-ghost use Rattle.std.specs.Prelude.{◌≡◌, ℕ, ◌*◌, ◌≤◌, true, length};
-ghost use Rattle.sets.specs.Tests.{count};
+ghost use Rattle.std.specs.Prelude.{◌≡◌, ℕ, ◌+◌, ◌≤◌, ◌++◌, true, length};
 ghost use Rattle.sets.specs.Masks.{member};
-ghost use Rattle.frames.specs.Frames.{longest_frame};
-ghost use Rattle.wire.specs.Spans.{span_at, Within, Holds};
+ghost use Rattle.wire.specs.Spans.{span_at, span_length, Holds, Apart, total};
 
 use super::roster::{PLACES, Roster};
 use super::span::Span;
+use arrayvec::ArrayVec;
 use frames::LONGEST_FRAME;
 use numbers::Refusal;
 use sets::BoxNumber;
 
 // Room for a frame of each box.
-pub(crate) const TAPE_ROOM: usize = PLACES * LONGEST_FRAME;
+const TAPE_ROOM: usize = PLACES * LONGEST_FRAME;
 
 #[derive(Drop, Debug)]
 pub struct Tape {
     pub(crate) roster: Roster,
-    // By the number of the box; of no meaning where it has not posted.
+    // By the number of the box; of no meaning where it has not posted. No byte is in two spans, and each is in one.
     pub(crate) spans: [Span; PLACES],
-    pub(crate) bytes: [u8; TAPE_ROOM],
-    // How many bytes were posted in this round.
-    pub(crate) used: usize,
-    ghost within: { (q : ℕ) → Within (length bytes) (span_at spans q) },
-    ghost holds: { (q : ℕ) → member roster.posted q ≡ true → Holds used (span_at spans q) },
-    ghost room: { used ≤ longest_frame * count (member roster.posted) 32 },
+    pub(crate) frames: ArrayVec<u8, TAPE_ROOM>,
+    ghost holds: { (q : ℕ) → member roster.posted q ≡ true → Holds (length frames.items) (span_at spans q) },
+    ghost apart: { Apart (member roster.posted) (span_at spans) },
+    ghost filled: { length frames.items ≡ total (member roster.posted) (span_length spans) 32 },
 }
 
 impl Tape {
@@ -40,18 +37,32 @@ impl Tape {
         Ok(Tape {
             roster: Roster::new(n)?,
             spans: [Span { start: 0, end: 0 }; PLACES],
-            bytes: [0; TAPE_ROOM],
-            used: 0,
+            frames: ArrayVec::new(),
         })
     }
 
-    // The bytes in the span of box q, whether it has posted or not.
+    // The frame that box q has posted, or any bytes if it has not.
     pub(crate) fn frame(&self, q: BoxNumber) -> &[u8]
-        ensures { result.now ≡ tape_frame self.now.spans self.now.bytes q.0 }
+        ensures { member self.now.roster.posted q.0 ≡ true → result.now ≡ tape_frame self.now.spans self.now.frames.items q.0 }
     {
         match self.spans.get(q.0 as usize) {
-            Some(span) => &self.bytes[span.start..span.end],
+            Some(span) => self.frames.get(span.start..span.end).unwrap_or(&[]),
             None => &[],
         }
+    }
+}
+
+// Writes the frame behind those that stand there, and tells where it stands.
+pub(crate) fn append(frames: &mut ArrayVec<u8, TAPE_ROOM>, frame: &[u8]) -> Span
+    requires { length frames.old.items + length frame.now ≤ TAPE_ROOM }
+    ensures items { frames.new.items ≡ frames.old.items ++ frame.now }
+    ensures start { result.start ≡ length frames.old.items }
+    ensures end { result.end ≡ length frames.old.items + length frame.now }
+{
+    let start = frames.len();
+    frames.try_extend_from_slice(frame).unwrap();
+    Span {
+        start,
+        end: frames.len(),
     }
 }

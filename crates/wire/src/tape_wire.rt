@@ -2,8 +2,7 @@
 ghost use Rattle.wire.specs.Tapes.{tape_meaning};
 ghost use Rattle.wire.specs.FormedLemmas.{tape_formed};
 
-use super::span::append;
-use super::tape::Tape;
+use super::tape::{Tape, append};
 use super::wire::Wire;
 use numbers::Refusal;
 use sets::{BoxNumber, BoxSet};
@@ -33,7 +32,7 @@ impl Wire for Tape {
 
     fn open(&mut self) {
         self.roster.open();
-        self.used = 0;
+        self.frames.clear();
     }
 
     fn fall(&mut self, q: BoxNumber, lost: BoxSet) -> Result<(), Refusal> {
@@ -42,9 +41,7 @@ impl Wire for Tape {
 
     fn post(&mut self, q: BoxNumber, frame: &[u8]) -> Result<(), Refusal> {
         self.roster.check_posting(q, frame)?;
-        let span = append(&mut self.bytes, self.used, frame);
-        self.spans[q.0 as usize] = span;
-        self.used = span.end;
+        self.spans[q.0 as usize] = append(&mut self.frames, frame);
         self.roster.enter_posted(q);
         Ok(())
     }

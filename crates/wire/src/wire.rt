@@ -1,8 +1,10 @@
 // What joins the boxes of a company. Code above sees a wire by its meaning alone: which boxes are up, the lost set of each box that is
 // falling (the boxes that do not hear what it sends), and what each has posted.
 ghost use Rattle.std.specs.Prelude.{◌≡◌, length};
+ghost use Rattle.wire.specs.Kept.{is_postable};
 ghost use Rattle.wire.specs.Meaning.{Meaning, WellFormed, falling_set, posted_set, opened, closed, falling, posting, answer, or_kept, fetching, told, laid};
 
+use frames::LONGEST_FRAME;
 use numbers::Refusal;
 use sets::{BoxNumber, BoxSet};
 
@@ -28,7 +30,7 @@ pub trait Wire {
     fn open(&mut self)
         ensures { meaning self.new ≡ opened (meaning self.old) };
 
-    // Box q falls; it may still post in this round, but the boxes of its lost set do not hear it.
+    // Box q falls. It may still post, but until the round closes the boxes of its lost set do not hear it; then it is down.
     fn fall(&mut self, q: BoxNumber, lost: BoxSet) -> Result<(), Refusal>
         ensures answer { result ≡ answer (falling q.0 lost (meaning self.old)) }
         ensures meaning { meaning self.new ≡ or_kept (meaning self.old) (falling q.0 lost (meaning self.old)) };
@@ -48,4 +50,11 @@ pub trait Wire {
         ensures { meaning self.new ≡ closed (meaning self.old) };
 
     ghost formed: { (w : Self) → WellFormed (meaning w) };
+}
+
+// Whether a wire takes these bytes for a frame.
+pub fn is_postable(frame: &[u8]) -> bool
+    ensures { result ≡ is_postable frame.now }
+{
+    (1..=LONGEST_FRAME).contains(&frame.len())
 }

@@ -1,10 +1,10 @@
 use Rattle.std.proofs.Common.{arith}
-use Rattle.sets.proofs.Members.{none_member}
+use Rattle.wire.proofs.Shown.{absent}
 use Rattle.wire.specs.Lines.{line_frame}
 use Rattle.wire.proofs.board_wire.BoardWire.open.Goals as goal
 
 pub invariant_of-self : goal.invariant_of-self
-invariant_of-self c = record { postable = λ q t. let f = none_member c.open.new.self.posted c.open.ensures.posted q in absurd (grind arith) }
+invariant_of-self c = record { postable = λ q t. absent _ (grind arith) q t }
 
 pub returns : goal.returns
 returns c = let m = c.open.ensures.meaning (line_frame c.args.self.now.lines) in cc

@@ -1,5 +1,5 @@
-use Rattle.std.proofs.Common.{◌≡◌, ap, ◌∙◌, sym, subst, set, arith}
-use Rattle.wire.specs.Kept.{Postable}
+use Rattle.std.proofs.Common.{◌≡◌, true, ap, ◌∙◌, set, arith}
+use Rattle.wire.specs.Kept.{is_postable}
 use Rattle.wire.specs.Lines.{line_frame}
 use Rattle.wire.specs.Meaning.{carrying}
 use Rattle.wire.specs.Boards.{board_meaning}
@@ -12,13 +12,13 @@ invariant_of-self c =
     let b = c.args.self.now in
     let r = b.roster in
     let q = c.args.q.0 in
-    let after = set b.lines q c.of.result in
+    let after = set b.lines q c.unwrap.result in
     let may = c.in_ok-check_posting.ensures in
-    let at = line_replaced b.lines q c.of.result (omega (arith, r.few, may.company)) in
-    let is : line_frame after q ≡ c.args.frame.now = cc (at.0, c.of.ensures) in
+    let at = line_replaced b.lines q c.unwrap.result (omega (arith, r.few, may.company)) in
+    let is : line_frame after q ≡ c.args.frame.now = grind (arith, at.0) in
     record {
       postable = kept_more r.n q r.posted c.enter_posted.new.self.posted r.few r.posted_within may.company c.enter_posted.ensures.posted
-          (λ _. Postable) (line_frame b.lines) (line_frame after) (subst Postable (sym is) may.postable) (λ i e _. at.1 i e) b.postable;
+          (λ _ f. is_postable f ≡ true) (line_frame b.lines) (line_frame after) (ap is_postable is ∙ may.postable) (λ i e _. at.1 i e) b.postable;
     }
 
 pub returns-clause-meaning : goal.returns-clause-meaning
@@ -26,9 +26,9 @@ returns-clause-meaning c =
     let b = c.args.self.now in
     let q = c.args.q.0 in
     let f = c.args.frame.now in
-    let after = set b.lines q c.of.result in
+    let after = set b.lines q c.unwrap.result in
     let may = c.in_ok-check_posting.ensures in
-    let at = line_replaced b.lines q c.of.result (omega (arith, b.roster.few, may.company)) in
-    let is : line_frame after q ≡ f = cc (at.0, c.of.ensures) in
+    let at = line_replaced b.lines q c.unwrap.result (omega (arith, b.roster.few, may.company)) in
+    let is : line_frame after q ≡ f = grind (arith, at.0) in
     let posts = c.enter_posted.ensures.meaning (line_frame b.lines) (line_frame after) (λ i e _. at.1 i e) in
     posts ∙ ap (λ g. carrying q g (board_meaning b)) is ∙ posting_ok q f (board_meaning b) (may.answer (line_frame b.lines))

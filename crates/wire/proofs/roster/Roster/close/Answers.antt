@@ -1,6 +1,5 @@
 use Rattle.std.proofs.Common.{[], refl, arith}
-use Rattle.sets.proofs.Members.{none_member}
-use Rattle.wire.proofs.Shown.{meaning_ext, none_if, staying_within, up_shown}
+use Rattle.wire.proofs.Shown.{absent, meaning_ext, none_if, staying_within, up_shown}
 use Rattle.wire.proofs.roster.Roster.close.Goals as goal
 
 pub returns-clause-meaning : goal.returns-clause-meaning
@@ -11,4 +10,4 @@ pub invariant_of-self-clause-up_within : goal.invariant_of-self-clause-up_within
 invariant_of-self-clause-up_within c = staying_within c.args.self.now (λ _. []) _ (cc (up_shown c.args.self.now (λ _. [])))
 
 pub invariant_of-self-clause-losing : goal.invariant_of-self-clause-losing
-invariant_of-self-clause-losing c = λ q t. let f = none_member c.empty-self.result c.empty-self.ensures q in absurd (grind arith)
+invariant_of-self-clause-losing c = λ q t. absent _ (grind arith) q t

@@ -3,7 +3,7 @@ use Rattle.std.proofs.lemmas.Bool.Decides.{nat_tests}
 use Rattle.sets.specs.Tests.{any}
 use Rattle.sets.specs.Masks.{member}
 use Rattle.sets.proofs.Members.{none_beyond}
-use Rattle.wire.specs.Kept.{set_at, Falls}
+use Rattle.wire.specs.Kept.{no_boxes, set_at, Falls}
 use Rattle.wire.specs.Meaning.{falling, fallen, or_kept}
 use Rattle.wire.specs.Rosters.{shown}
 use Rattle.wire.proofs.Lists.{replaced}
@@ -17,7 +17,7 @@ invariant_of-self-clause-losing c =
     let s = c.args.lost in
     let below : any (λ i. member s i && leb r.n i) 32 ≡ false = grind arith in
     let loses : Falls r.n r.up q s = (grind arith, none_beyond r.n s (omega arith) below, grind arith) in
-    let at = replaced r.lost q s (record { mask = 0 }) (omega arith) in
+    let at = replaced r.lost q s (no_boxes) (omega arith) in
     kept_more r.n q r.falling c.with-self.result r.few (falling_within r) (omega arith) c.with-self.ensures
     (Falls r.n r.up) (set_at r.lost) (set_at (set r.lost q s)) (subst (Falls r.n r.up q) (sym at.0) loses) (λ i e _. at.1 i e) r.losing
 
@@ -29,6 +29,6 @@ returns-clause-meaning c = λ frames.
     let s = c.args.lost in
     let m = shown r frames in
     let falls : falling q s m ≡ Ok (fallen q s m) = grind (arith, nat_tests) in
-    let at = replaced r.lost q s (record { mask = 0 }) (omega arith) in
+    let at = replaced r.lost q s (no_boxes) (omega arith) in
     let there = entered r.n q r.falling c.with-self.result r.few (falling_within r) (omega arith) c.with-self.ensures (set_at r.lost) (set_at (set r.lost q s)) s at.0 (λ i e _. at.1 i e) in
     meaning_ext _ _ refl refl there (λ _. refl) ∙ sym (ap (or_kept m) falls)

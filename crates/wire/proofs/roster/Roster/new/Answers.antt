@@ -1,15 +1,15 @@
 use Rattle.std.proofs.Common.{◌≡◌, true, Ok, ap, refl, arith}
 use Rattle.sets.specs.Companies.{company_size}
-use Rattle.sets.proofs.Members.{all_within, none_below, none_member}
+use Rattle.sets.proofs.Members.{all_within, none_below}
 use Rattle.wire.specs.Meaning.{making}
-use Rattle.wire.proofs.Shown.{meaning_ext, none_if}
+use Rattle.wire.proofs.Shown.{absent, meaning_ext, none_if}
 use Rattle.wire.proofs.roster.Roster.new.Goals as goal
 
 pub invariant_of-result-clause-up_within : goal.invariant_of-result-clause-up_within
 invariant_of-result-clause-up_within c = all_within c.args.n c.all_below.result c.all_below.ensures
 
 pub invariant_of-result-clause-losing : goal.invariant_of-result-clause-losing
-invariant_of-result-clause-losing c = λ q t. let f = none_member c.empty.result c.empty.ensures q in absurd (grind arith)
+invariant_of-result-clause-losing c = λ q t. absent _ (grind arith) q t
 
 pub invariant_of-result-clause-posted_within : goal.invariant_of-result-clause-posted_within
 invariant_of-result-clause-posted_within c = none_below c.empty-3.result c.empty-3.ensures _

@@ -1,10 +1,16 @@
 use Rattle.std.proofs.Common.{arith}
-use Rattle.sets.proofs.Members.{none_member}
 use Rattle.wire.specs.Spans.{tape_frame}
+use Rattle.wire.proofs.Shown.{absent}
+use Rattle.wire.proofs.Tapes.{none_filled}
 use Rattle.wire.proofs.tape_wire.TapeWire.open.Goals as goal
 
-pub invariant_of-self-clause-holds : goal.invariant_of-self-clause-holds
-invariant_of-self-clause-holds c = λ q t. let f = none_member c.open.new.self.posted c.open.ensures.posted q in absurd (grind arith)
+pub invariant_of-self : goal.invariant_of-self
+invariant_of-self c =
+    record {
+      holds = λ q t. absent _ (grind arith) q t;
+      apart = λ p q t u. absent _ (grind arith) p t;
+      filled = none_filled _ _ _ (grind arith) (grind arith);
+    }
 
 pub returns : goal.returns
-returns c = let m = c.open.ensures.meaning (tape_frame c.args.self.now.spans c.args.self.now.bytes) in cc
+returns c = let m = c.open.ensures.meaning (tape_frame c.args.self.now.spans c.clear.new.self.items) in cc

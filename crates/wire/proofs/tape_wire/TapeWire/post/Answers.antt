@@ -1,61 +1,55 @@
-use Rattle.std.proofs.Common.{◌≡◌, length, set, slice_range, ap, ◌∙◌, sym, subst, arith}
-use Rattle.wire.specs.declared.span.Span.{Span}
+use Rattle.std.proofs.Common.{length, set, ap, ◌∙◌, arith}
+use Rattle.sets.specs.Masks.{member}
+use Rattle.sets.proofs.Members.{entering}
 use Rattle.wire.specs.Meaning.{carrying}
-use Rattle.wire.specs.Spans.{span_at, tape_frame, Within, Holds}
+use Rattle.wire.specs.Spans.{span_at, tape_frame, Holds}
 use Rattle.wire.specs.Tapes.{tape_meaning}
-use Rattle.sets.proofs.Members.{entered_counts}
-use Rattle.wire.proofs.Lists.{everywhere, replaced}
 use Rattle.wire.proofs.Shown.{kept_more}
-use Rattle.wire.proofs.Posts.{posting_ok}
-use Rattle.wire.proofs.Tapes.{room_left}
+use Rattle.wire.proofs.Posts.{postable_length, posting_ok}
+use Rattle.wire.proofs.Tapes.{Appended, apart_more, filled_more, held_before, holds_more, kept_frame, new_frame, room_left, there}
 use Rattle.wire.proofs.tape_wire.TapeWire.post.Goals as goal
 
-pub append-span-requires : goal.append-span-requires
-append-span-requires c =
-    let may = c.in_ok-check_posting.ensures in
-    omega (arith, may.postable, room_left c.args.self.now c.args.q.0 may.company may.vacant)
+pub returns-in_err-check_posting-clause-answer : goal.returns-in_err-check_posting-clause-answer
+returns-in_err-check_posting-clause-answer c =
+    let h = c.check_posting.ensures.answer (tape_frame c.args.self.now.spans c.args.self.now.frames.items) in
+    grind arith
 
-pub invariant_of-self-clause-within : goal.invariant_of-self-clause-within
-invariant_of-self-clause-within c =
-    let t = c.args.self.now in
+pub append-requires : goal.append-requires
+append-requires c =
     let may = c.in_ok-check_posting.ensures in
-    everywhere (Within (length c.append-span.new.bytes)) t.spans c.args.q.0 c.append-span.result (record { start = 0; end = 0 })
-    (omega (arith, t.roster.few, may.company))
-    (omega arith, omega (arith, may.postable, room_left t c.args.q.0 may.company may.vacant))
-    (λ i. (omega (arith, t.within i), omega (arith, t.within i)))
+    omega (arith, postable_length c.args.frame.now may.postable, room_left c.args.self.now c.args.q.0 may.company may.vacant)
 
-pub invariant_of-self-clause-holds : goal.invariant_of-self-clause-holds
-invariant_of-self-clause-holds c =
+pub invariant_of-self : goal.invariant_of-self
+invariant_of-self c =
     let t = c.args.self.now in
     let r = t.roster in
     let q = c.args.q.0 in
-    let s = c.append-span.result in
+    let f = c.args.frame.now in
+    let s = c.append.result in
+    let bytes = c.append.new.frames.items in
+    let put = c.append.ensures in
     let may = c.in_ok-check_posting.ensures in
-    let at = replaced t.spans q s (record { start = 0; end = 0 }) (omega (arith, r.few, may.company)) in
-    kept_more r.n q r.posted c.enter_posted.new.self.posted r.few r.posted_within may.company c.enter_posted.ensures.posted
-    (λ _. Holds s.end) (span_at t.spans) (span_at (set t.spans q s))
-    (subst (Holds s.end) (sym at.0) (omega (arith, may.postable), omega (arith, may.postable), omega arith))
-    (λ i e _. at.1 i e)
-    (λ i m. (omega (arith, t.holds i m), omega (arith, t.holds i m), omega (arith, t.holds i m)))
-
-pub invariant_of-self-clause-room : goal.invariant_of-self-clause-room
-invariant_of-self-clause-room c =
-    let t = c.args.self.now in
-    let r = t.roster in
-    let may = c.in_ok-check_posting.ensures in
-    omega (arith, t.room, may.postable, entered_counts r.n c.args.q.0 r.posted c.enter_posted.new.self.posted r.few r.posted_within may.company c.enter_posted.ensures.posted may.vacant)
+    let entry = c.enter_posted.ensures.posted in
+    let P = member c.enter_posted.new.self.posted in
+    let w : Appended t q f bytes s = record { listed = omega (arith, r.few, may.company); items = put.items; start = put.start; end = put.end } in
+    let more = entering r.n q r.posted c.enter_posted.new.self.posted r.few r.posted_within may.company entry in
+    record {
+      holds = kept_more r.n q r.posted c.enter_posted.new.self.posted r.few r.posted_within may.company entry
+          (λ _. Holds (length bytes)) (span_at t.spans) (span_at (set t.spans q s)) (holds_more w may.postable) (λ i e _. (there w).1 i e) (held_before w);
+      apart = apart_more w P more;
+      filled = filled_more w P may.vacant (omega (arith, r.few, may.company)) more;
+    }
 
 pub returns-clause-meaning : goal.returns-clause-meaning
 returns-clause-meaning c =
     let t = c.args.self.now in
     let q = c.args.q.0 in
-    let s = c.append-span.result in
     let f = c.args.frame.now in
-    let bytes = c.append-span.new.bytes in
+    let s = c.append.result in
+    let bytes = c.append.new.frames.items in
+    let put = c.append.ensures in
     let may = c.in_ok-check_posting.ensures in
-    let at = replaced t.spans q s (record { start = 0; end = 0 }) (omega (arith, t.roster.few, may.company)) in
-    let stands : slice_range bytes s.start s.end ≡ f = grind arith in
-    c.enter_posted.ensures.meaning (tape_frame t.spans t.bytes) (tape_frame (set t.spans q s) bytes)
-    (λ i e m. ap (λ (x : Span). slice_range bytes x.start x.end) (at.1 i e) ∙ c.append-span.ensures.kept _ _ (omega (arith, t.holds i m)))
-    ∙ ap (λ g. carrying q g (tape_meaning t)) (ap (λ (x : Span). slice_range bytes x.start x.end) at.0 ∙ stands)
-    ∙ posting_ok q f (tape_meaning t) (may.answer (tape_frame t.spans t.bytes))
+    let w : Appended t q f bytes s = record { listed = omega (arith, t.roster.few, may.company); items = put.items; start = put.start; end = put.end } in
+    c.enter_posted.ensures.meaning (tape_frame t.spans t.frames.items) (tape_frame (set t.spans q s) bytes) (kept_frame w)
+    ∙ ap (λ g. carrying q g (tape_meaning t)) (new_frame w)
+    ∙ posting_ok q f (tape_meaning t) (may.answer (tape_frame t.spans t.frames.items))
