@@ -33,6 +33,10 @@ inside_counts a b e = count_le (member a) (member b) 32 (λ k l m. let n = any_n
 pub set_kept : (n : ℕ) (s : BoxSet) (P : ℕ → Bool) → n ≤ 32 → s.mask < 2 ^ n → ((i : ℕ) → member s i ≡ P i) → s ≡ set_of P
 set_kept n s P few h e = set_is P s.mask (lt_of_lt_of_le h (pow_mono few)) (λ i _. e i)
 
+-- a box of a set within a company of n is one of the company
+pub member_below : (n : ℕ) (s : BoxSet) (q : ℕ) → s.mask < 2 ^ n → member s q ≡ true → q < n
+member_below n s q h m = let b = bit_high n s.mask q h in grind (arith, nat_tests)
+
 -- a set that has no box from n on is within a company of n
 pub none_beyond : (n : ℕ) (s : BoxSet) → s.mask < 2 ^ 32 → any (λ i. member s i && leb n i) 32 ≡ false → s.mask < 2 ^ n
 none_beyond n s h e =

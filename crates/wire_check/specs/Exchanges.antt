@@ -14,4 +14,4 @@ in_round p q f g m = record m { posted = λ i. cond (i == q) (Some g) (cond (i =
 -- x, unless one of the two is not up, they are the same, or a frame cannot be posted
 abbrev pub exchanged : {X : Type 0} → (p q : ℕ) → List ℕ → List ℕ → Meaning → X → Result X Refusal
 exchanged p q f g m x =
-    unless ((not (member m.up p && member m.up q), Down) ∷ (p == q, Posted) ∷ (not (is_postable f && is_postable g), Narrow) ∷ []) x
+    unless ((not (member m.up p && member m.up q), Down) ∷ (q == p, Posted) ∷ (not (is_postable f && is_postable g), Narrow) ∷ []) x

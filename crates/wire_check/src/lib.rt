@@ -1,6 +1,8 @@
-// The wire as code above sees it: a generic function over any wire, proved from the trait alone.
+// The wire as code above sees it: generic functions over any wire, proved from the trait alone.
 #![tactic(auto)]
 
 mod exchange;
+mod listening;
 
 pub use exchange::{Exchanged, exchange_frames};
+pub use listening::hear_box;

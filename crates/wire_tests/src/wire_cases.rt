@@ -5,7 +5,7 @@ use sets::{BoxNumber, BoxSet};
 use std::process::Abort;
 use std::test::Fail;
 use wire::{Board, Tape, Wire};
-use wire_check::{Exchanged, exchange_frames};
+use wire_check::{Exchanged, exchange_frames, hear_box};
 
 const OLD: [u8; LONGEST_FRAME + 1] = [0xaa; LONGEST_FRAME + 1];
 
@@ -20,33 +20,31 @@ fn falls<W: Wire>(wire: &mut W, q: u32, lost: u32) -> Result<(), Refusal> {
     wire.fall(BoxNumber(q), BoxSet::from_mask(lost))
 }
 
+fn posts<W: Wire>(wire: &mut W, q: u32, frame: &[u8]) -> Result<(), Refusal> {
+    wire.post(BoxNumber(q), frame)
+}
+
+fn fetches<W: Wire>(wire: &W, p: u32, q: u32, out: &mut [u8]) -> Result<Option<usize>, Refusal> {
+    wire.fetch(BoxNumber(p), BoxNumber(q), out)
+}
+
 // Box p hears this frame of box q, in room for just that, and in more.
 fn hears<W: Wire>(rt: &impl Abort, wire: &W, p: u32, q: u32, frame: &[u8]) {
     let len = frame.len();
     let mut out = OLD;
-    if len < out.len() {
-        assert_eq!(rt;
-            wire.fetch(BoxNumber(p), BoxNumber(q), &mut out),
-            Ok(Some(len))
-        );
-        assert!(rt; out.starts_with(frame) && out[len..] == OLD[len..]);
-        let mut just = OLD;
-        assert_eq!(rt;
-            wire.fetch(BoxNumber(p), BoxNumber(q), &mut just[..len]),
-            Ok(Some(len))
-        );
-        assert!(rt; just == out);
-    }
+    assert!(rt; len < out.len());
+    assert_eq!(rt; fetches(wire, p, q, &mut out), Ok(Some(len)));
+    assert!(rt; out.starts_with(frame) && out[len..] == OLD[len..]);
+    let mut just = OLD;
+    assert_eq!(rt; fetches(wire, p, q, &mut just[..len]), Ok(Some(len)));
+    assert!(rt; just == out);
 }
 
 // Box p hears nothing of box q, whatever the room.
 fn hears_nothing<W: Wire>(rt: &impl Abort, wire: &W, p: u32, q: u32) {
     let mut out = OLD;
-    assert_eq!(rt; wire.fetch(BoxNumber(p), BoxNumber(q), &mut out), Ok(None));
-    assert_eq!(rt;
-        wire.fetch(BoxNumber(p), BoxNumber(q), &mut out[..0]),
-        Ok(None)
-    );
+    assert_eq!(rt; fetches(wire, p, q, &mut out), Ok(None));
+    assert_eq!(rt; fetches(wire, p, q, &mut out[..0]), Ok(None));
     assert!(rt; out == OLD);
 }
 
@@ -59,13 +57,9 @@ fn fetch_refuses<W: Wire>(
     refusal: Refusal,
 ) {
     let mut out = OLD;
-    if room < out.len() {
-        assert_eq!(rt;
-            wire.fetch(BoxNumber(p), BoxNumber(q), &mut out[..room]),
-            Err(refusal)
-        );
-        assert!(rt; out == OLD);
-    }
+    assert!(rt; room < out.len());
+    assert_eq!(rt; fetches(wire, p, q, &mut out[..room]), Err(refusal));
+    assert!(rt; out == OLD);
 }
 
 fn is_new<W: Wire>(rt: &impl Abort, wire: &W, n: u32, up: u32) {
@@ -87,7 +81,7 @@ fn new_wires(rt: HostRuntime) -> Result<(), Fail> {
     Ok(())
 }
 
-// Each refusal of each call, on a new wire for four; nothing is changed by one.
+// Each refusal of each call, on a new wire for four, in the order in which they count; none changes anything.
 fn refuses<W: Wire>(rt: &impl Abort, wire: &mut W) -> Result<(), Fail> {
     assert_eq!(rt; falls(wire, 4, 0b10000), Err(Refusal::Stranger));
     assert_eq!(rt; falls(wire, 1, 0b10000), Err(Refusal::Set));
@@ -96,21 +90,26 @@ fn refuses<W: Wire>(rt: &impl Abort, wire: &mut W) -> Result<(), Fail> {
     falls(wire, 1, 0b0101)?;
     assert_eq!(rt; falls(wire, 1, 0b10000), Err(Refusal::Set));
     assert_eq!(rt; falls(wire, 1, 0b1000), Err(Refusal::Down));
+    posts(wire, 1, b"\x09")?;
+    // The lost set is still that of the first call.
+    hears_nothing(rt, wire, 0, 1);
+    hears(rt, wire, 3, 1, b"\x09");
     wire.close();
+    wire.open();
     assert_eq!(rt; falls(wire, 1, 0), Err(Refusal::Down));
     shows(rt, wire, 0b1101, 0, 0);
 
-    assert_eq!(rt; wire.post(BoxNumber(4), &[]), Err(Refusal::Stranger));
-    assert_eq!(rt; wire.post(BoxNumber(1), &[]), Err(Refusal::Down));
-    assert_eq!(rt; wire.post(BoxNumber(2), &[]), Err(Refusal::Narrow));
+    assert_eq!(rt; posts(wire, 4, &[]), Err(Refusal::Stranger));
+    assert_eq!(rt; posts(wire, 1, &[]), Err(Refusal::Down));
+    assert_eq!(rt; posts(wire, 2, &[]), Err(Refusal::Narrow));
     assert_eq!(rt;
-        wire.post(BoxNumber(2), &[7; LONGEST_FRAME + 1]),
+        posts(wire, 2, &[7; LONGEST_FRAME + 1]),
         Err(Refusal::Narrow)
     );
     shows(rt, wire, 0b1101, 0, 0);
-    wire.post(BoxNumber(2), b"\x01\x02\x03")?;
-    assert_eq!(rt; wire.post(BoxNumber(2), &[]), Err(Refusal::Posted));
-    assert_eq!(rt; wire.post(BoxNumber(2), b"\x04"), Err(Refusal::Posted));
+    posts(wire, 2, b"\x01\x02\x03")?;
+    assert_eq!(rt; posts(wire, 2, &[]), Err(Refusal::Posted));
+    assert_eq!(rt; posts(wire, 2, b"\x04"), Err(Refusal::Posted));
     shows(rt, wire, 0b1101, 0, 0b0100);
 
     fetch_refuses(rt, wire, 4, 2, 24, Refusal::Stranger);
@@ -119,6 +118,8 @@ fn refuses<W: Wire>(rt: &impl Abort, wire: &mut W) -> Result<(), Fail> {
     fetch_refuses(rt, wire, 0, 2, 2, Refusal::Narrow);
     fetch_refuses(rt, wire, 0, 2, 0, Refusal::Narrow);
     hears(rt, wire, 0, 2, b"\x01\x02\x03");
+    // A box that is down may be told what it would hear.
+    hears(rt, wire, 1, 2, b"\x01\x02\x03");
     hears_nothing(rt, wire, 2, 0);
     Ok(())
 }
@@ -134,12 +135,12 @@ fn falls_while_sending<W: Wire>(rt: &impl Abort, wire: &mut W) -> Result<(), Fai
     wire.open();
     falls(wire, 1, 0b1001)?;
     shows(rt, wire, 0b1111, 0b0010, 0);
-    wire.post(BoxNumber(3), b"\x01\x03\x00\x28")?;
-    wire.post(BoxNumber(1), b"\x01\x01\x00\x81\x48")?;
-    wire.post(BoxNumber(0), b"\x01\x00\x00\x1e")?;
+    posts(wire, 3, b"\x01\x03\x00\x28")?;
+    posts(wire, 1, b"\x01\x01\x00\x81\x48")?;
+    posts(wire, 0, b"\x01\x00\x00\x1e")?;
     shows(rt, wire, 0b1111, 0b0010, 0b1011);
     hears(rt, wire, 2, 1, b"\x01\x01\x00\x81\x48");
-    // A box that posts may be told of itself; it is in no lost set of its own.
+    // No box is in its own lost set.
     hears(rt, wire, 1, 1, b"\x01\x01\x00\x81\x48");
     hears_nothing(rt, wire, 0, 1);
     hears_nothing(rt, wire, 3, 1);
@@ -154,10 +155,10 @@ fn falls_while_sending<W: Wire>(rt: &impl Abort, wire: &mut W) -> Result<(), Fai
     shows(rt, wire, 0b1101, 0, 0);
     hears_nothing(rt, wire, 2, 1);
     hears_nothing(rt, wire, 1, 0);
-    assert_eq!(rt; wire.post(BoxNumber(1), b"\x02"), Err(Refusal::Down));
-    // A shorter frame in a place that held a longer one, and another order of posting.
-    wire.post(BoxNumber(0), b"\x02\x00\x02\x14")?;
-    wire.post(BoxNumber(3), b"\x02")?;
+    assert_eq!(rt; posts(wire, 1, b"\x02"), Err(Refusal::Down));
+    // A shorter frame where a longer one stood, and another order of posting.
+    posts(wire, 0, b"\x02\x00\x02\x14")?;
+    posts(wire, 3, b"\x02")?;
     hears(rt, wire, 2, 3, b"\x02");
     hears(rt, wire, 3, 0, b"\x02\x00\x02\x14");
     falls(wire, 0, 0b1100)?;
@@ -178,7 +179,7 @@ fn fills<W: Wire>(rt: &impl Abort, wire: &mut W) -> Result<(), Fail> {
     for round in [1, 2] {
         wire.open();
         for q in (0..32).rev() {
-            wire.post(BoxNumber(q), &[round * 64 + q as u8; LONGEST_FRAME])?;
+            posts(wire, q, &[round * 64 + q as u8; LONGEST_FRAME])?;
         }
         shows(rt, wire, u32::MAX, 0, u32::MAX);
         for p in 0..32 {
@@ -197,35 +198,44 @@ fn full_company(rt: HostRuntime) -> Result<(), Fail> {
     fills(&rt, &mut Tape::new(32)?)
 }
 
-// Two of three exchange frames, by the function that is written over any wire; box 1 falls in the second round, and 0 does not hear it.
+// Two of three exchange frames by the function that is written over any wire; before their second round box 1 falls, and 0 loses it.
 fn exchanges<W: Wire>(rt: &impl Abort, wire: &mut W) -> Result<(), Fail> {
-    let mut first = [0xaa; LONGEST_FRAME];
-    let mut second = [0xaa; LONGEST_FRAME];
-    let both = Exchanged {
-        first: Some(2),
-        second: Some(1),
-    };
+    let (p, q) = (BoxNumber(0), BoxNumber(1));
+    let mut to_p = [0xaa; LONGEST_FRAME];
+    let mut to_q = [0xaa; LONGEST_FRAME];
+    let (by_p, by_q) = (Some(2), Some(1));
     assert_eq!(rt;
-        exchange_frames(wire, b"\x09", b"\x07\x08", &mut first, &mut second),
-        Ok(both)
+        exchange_frames(wire, p, q, b"\x09", b"\x07\x08", &mut to_p, &mut to_q),
+        Ok(Exchanged { by_p, by_q })
     );
-    assert!(rt; first.starts_with(b"\x07\x08\xaa") && second.starts_with(b"\x09\xaa"));
+    assert!(rt; to_p.starts_with(b"\x07\x08\xaa") && to_q.starts_with(b"\x09\xaa"));
+    assert_eq!(rt;
+        exchange_frames(wire, p, p, b"\x09", b"\x07\x08", &mut to_p, &mut to_q),
+        Err(Refusal::Posted)
+    );
+    assert_eq!(rt;
+        exchange_frames(wire, p, q, b"\x09", &[], &mut to_p, &mut to_q),
+        Err(Refusal::Narrow)
+    );
     falls(wire, 1, 0b001)?;
-    let one = Exchanged {
-        first: None,
-        second: Some(1),
-    };
+    let by_p = None;
     assert_eq!(rt;
-        exchange_frames(wire, b"\x05", b"\x06", &mut first, &mut second),
-        Ok(one)
+        exchange_frames(wire, p, q, b"\x05", b"\x06", &mut to_p, &mut to_q),
+        Ok(Exchanged { by_p, by_q })
     );
-    assert!(rt; first.starts_with(b"\x07\x08\xaa") && second.starts_with(b"\x05\xaa"));
+    assert!(rt; to_p.starts_with(b"\x07\x08\xaa") && to_q.starts_with(b"\x05\xaa"));
     shows(rt, wire, 0b101, 0, 0b011);
     assert_eq!(rt;
-        exchange_frames(wire, b"\x05", b"\x06", &mut first, &mut second),
+        exchange_frames(wire, p, q, b"\x05", b"\x06", &mut to_p, &mut to_q),
         Err(Refusal::Down)
     );
     shows(rt, wire, 0b101, 0, 0b011);
+    assert_eq!(rt; hear_box(wire, BoxNumber(2), q, &mut to_q), Ok(Some(1)));
+    assert!(rt; to_q.starts_with(b"\x06\xaa"));
+    assert_eq!(rt;
+        hear_box(wire, BoxNumber(3), q, &mut to_q),
+        Err(Refusal::Stranger)
+    );
     Ok(())
 }
 
