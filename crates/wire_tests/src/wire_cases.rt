@@ -161,10 +161,17 @@ fn falls_while_sending<W: Wire>(rt: &impl Abort, wire: &mut W) -> Result<(), Fai
     posts(wire, 3, b"\x02")?;
     hears(rt, wire, 2, 3, b"\x02");
     hears(rt, wire, 3, 0, b"\x02\x00\x02\x14");
-    falls(wire, 0, 0b1100)?;
+    // Two fall at once, after they have posted; a lost set may name a box that is down.
+    falls(wire, 0, 0b1010)?;
+    falls(wire, 3, 0b0100)?;
+    shows(rt, wire, 0b1101, 0b1001, 0b1001);
     hears_nothing(rt, wire, 3, 0);
+    hears_nothing(rt, wire, 1, 0);
+    hears(rt, wire, 2, 0, b"\x02\x00\x02\x14");
+    hears_nothing(rt, wire, 2, 3);
+    hears(rt, wire, 0, 3, b"\x02");
     wire.close();
-    shows(rt, wire, 0b1100, 0, 0b1001);
+    shows(rt, wire, 0b0100, 0, 0b1001);
     Ok(())
 }
 

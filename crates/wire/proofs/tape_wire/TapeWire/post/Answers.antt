@@ -31,7 +31,7 @@ invariant_of-self c =
     let may = c.in_ok-check_posting.ensures in
     let entry = c.enter_posted.ensures.posted in
     let P = member c.enter_posted.new.self.posted in
-    let w : Appended t q f bytes s = record { listed = omega (arith, r.few, may.company); items = put.items; start = put.start; end = put.end } in
+    let w : Appended t q f bytes s = record { listed = omega (arith, r.few, may.company); items = cc (put.items); start = omega arith; end = omega arith } in
     let more = entering r.n q r.posted c.enter_posted.new.self.posted r.few r.posted_within may.company entry in
     record {
       holds = kept_more r.n q r.posted c.enter_posted.new.self.posted r.few r.posted_within may.company entry
@@ -49,7 +49,7 @@ returns-clause-meaning c =
     let bytes = c.append.new.frames.items in
     let put = c.append.ensures in
     let may = c.in_ok-check_posting.ensures in
-    let w : Appended t q f bytes s = record { listed = omega (arith, t.roster.few, may.company); items = put.items; start = put.start; end = put.end } in
+    let w : Appended t q f bytes s = record { listed = omega (arith, t.roster.few, may.company); items = cc (put.items); start = omega arith; end = omega arith } in
     c.enter_posted.ensures.meaning (tape_frame t.spans t.frames.items) (tape_frame (set t.spans q s) bytes) (kept_frame w)
     ∙ ap (λ g. carrying q g (tape_meaning t)) (new_frame w)
     ∙ posting_ok q f (tape_meaning t) (may.answer (tape_frame t.spans t.frames.items))
