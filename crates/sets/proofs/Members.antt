@@ -4,7 +4,7 @@ use Rattle.std.proofs.lemmas.Bool.Decides.{nat_tests}
 use Rattle.sets.specs.declared.set.BoxSet.{BoxSet}
 use Rattle.sets.specs.Tests.{any, count}
 use Rattle.sets.specs.Masks.{member, set_of}
-use Rattle.sets.proofs.Bits.{bit_high, bit-mask_of, mask_below, set_is}
+use Rattle.sets.proofs.Bits.{bit_high, bit-mask_of, mask_below, set_ext, set_is}
 use Rattle.sets.proofs.Counts.{any_none, count_ext, count_le, count_more, count_none}
 
 -- whether a number below 32 is in the set that a test makes
@@ -28,6 +28,12 @@ module _ (s : BoxSet) (empty : s ≡ set_of (λ _. false)) where
 -- a set that lacks no box of another counts no less
 pub inside_counts : (a b : BoxSet) → any (λ i. member a i && not (member b i)) 32 ≡ false → count (member a) 32 ≤ count (member b) 32
 inside_counts a b e = count_le (member a) (member b) 32 (λ k l m. let n = any_none (λ i. member a i && not (member b i)) 32 e k l in grind arith)
+
+-- the boxes of one set that are not in another, by tests that the members pass
+pub difference_of : (P Q : ℕ → Bool) (a b d : BoxSet) → d ≡ set_of (λ i. member a i && not (member b i))
+    → ((i : ℕ) → i < 32 → member a i ≡ P i) → ((i : ℕ) → i < 32 → member b i ≡ Q i) → d ≡ set_of (λ i. P i && not (Q i))
+difference_of P Q a b d e f g =
+    e ∙ set_ext (λ i. member a i && not (member b i)) (λ i. P i && not (Q i)) (λ i l. let x = f i l in let y = g i l in grind arith)
 
 -- a set within a company of at most 32 boxes is the set of those that pass a test which its members alone pass
 pub set_kept : (n : ℕ) (s : BoxSet) (P : ℕ → Bool) → n ≤ 32 → s.mask < 2 ^ n → ((i : ℕ) → member s i ≡ P i) → s ≡ set_of P

@@ -1,10 +1,11 @@
 -- What posting makes of a wire. Assumes nothing.
-use Rattle.std.proofs.Common.{◌≡◌, ℕ, ◌<◌, ◌≤◌, true, false, eqb, List, [], length, map, set, Ok, arith}
+use Rattle.std.proofs.Common.{◌≡◌, ℕ, ◌<◌, ◌≤◌, true, false, eqb, List, [], length, map, set, Ok, Err, Result, sym, ap, arith}
 use Rattle.std.proofs.lemmas.Bool.Decides.{nat_tests}
 use Rattle.std.proofs.lemmas.List.{map-set, length-map}
 use Rattle.arrayvec.specs.ArrayVec.{ArrayVec}
 use Rattle.frames.specs.Frames.{longest_frame}
 use Rattle.wire.specs.Kept.{is_postable}
+use Rattle.numbers.specs.declared.refusal.Refusal.{Refusal}
 use Rattle.wire.specs.Meaning.{Meaning, posting, carrying, answer, or_kept}
 use Rattle.wire.specs.Lines.{line_frame}
 use Rattle.wire.proofs.Lists.{replaced}
@@ -12,6 +13,11 @@ use Rattle.wire.proofs.Lists.{replaced}
 -- how long a frame is that may be posted
 pub postable_length : (f : List ℕ) → is_postable f ≡ true → (1 ≤ length f) × (length f ≤ longest_frame)
 postable_length f e = (grind (arith, nat_tests), grind (arith, nat_tests))
+
+-- what an accepted call leaves is what is defined
+pub accepted : (r : Result Meaning Refusal) (m n : Meaning) → Ok tt ≡ answer r → n ≡ or_kept m r → r ≡ Ok n
+accepted (Ok x) m n a b = ap (λ k. Ok k) (sym b)
+accepted (Err e) m n a b = absurd (grind arith)
 
 -- what an accepted posting leaves
 pub posting_ok : (q : ℕ) (f : List ℕ) (m : Meaning) → Ok tt ≡ answer (posting q f m) → carrying q f m ≡ or_kept m (posting q f m)

@@ -3,6 +3,8 @@
 
 mod exchange;
 mod listening;
+mod standing;
 
 pub use exchange::{Exchanged, exchange_frames};
 pub use listening::hear_box;
+pub use standing::{silent, survivors};

@@ -5,7 +5,7 @@ use sets::{BoxNumber, BoxSet};
 use std::process::Abort;
 use std::test::Fail;
 use wire::{Board, Tape, Wire};
-use wire_check::{Exchanged, exchange_frames, hear_box};
+use wire_check::{Exchanged, exchange_frames, hear_box, silent, survivors};
 
 const OLD: [u8; LONGEST_FRAME + 1] = [0xaa; LONGEST_FRAME + 1];
 
@@ -224,7 +224,10 @@ fn exchanges<W: Wire>(rt: &impl Abort, wire: &mut W) -> Result<(), Fail> {
         exchange_frames(wire, p, q, b"\x09", &[], &mut to_p, &mut to_q),
         Err(Refusal::Narrow)
     );
-    falls(wire, 1, 0b001)?;
+    assert_eq!(rt; silent(wire).mask(), 0b100);
+    let lost = BoxSet::only(p);
+    assert_eq!(rt; survivors(wire, q, lost), Ok(BoxSet::from_mask(0b101)));
+    assert_eq!(rt; survivors(wire, q, lost), Err(Refusal::Down));
     let by_p = None;
     assert_eq!(rt;
         exchange_frames(wire, p, q, b"\x05", b"\x06", &mut to_p, &mut to_q),
