@@ -39,6 +39,7 @@ pub record WellFormed (m : Meaning) : Type 0 where
 abbrev pub fresh : ℕ → Meaning
 fresh n = record { n = n; up = set_of (λ i. nat_lt i n); lost = λ _. None; posted = λ _. None }
 
+-- making one for n boxes
 unfoldable pub making : ℕ → Result Meaning Refusal
 making n = unless ((not (company_size n), refusal.Company) ∷ []) (fresh n)
 
@@ -54,14 +55,15 @@ closed m = record m { up = set_of (λ i. member m.up i && not (is_some (m.lost i
 
 -- ---- falling
 
--- that a set has a box that is none of the company's, or the box itself
+-- that the set is no lost set of box q: it has a box that is none of the company's, or q itself
 abbrev pub bad_lost : Meaning → ℕ → BoxSet → Bool
 bad_lost m q s = any (λ i. member s i && nat_le m.n i) 32 || member s q
 
+-- box q is falling besides, with s for its lost set
 abbrev pub fallen : ℕ → BoxSet → Meaning → Meaning
 fallen q s m = record m { lost = λ i. cond (i == q) (Some s) (m.lost i) }
 
--- box q falls, with s for its lost set
+-- letting box q fall
 unfoldable pub falling : ℕ → BoxSet → Meaning → Result Meaning Refusal
 falling q s m =
     unless
@@ -73,10 +75,11 @@ falling q s m =
 
 -- ---- posting
 
+-- box q has posted the bytes f besides
 abbrev pub carrying : ℕ → List ℕ → Meaning → Meaning
 carrying q f m = record m { posted = λ i. cond (i == q) (Some f) (m.posted i) }
 
--- box q posts the bytes f; it may be falling
+-- letting box q post, which may be falling
 unfoldable pub posting : ℕ → List ℕ → Meaning → Result Meaning Refusal
 posting q f m =
     unless

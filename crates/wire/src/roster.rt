@@ -108,7 +108,7 @@ impl Roster {
         Ok(())
     }
 
-    // Enters that box q has posted.
+    // Enters that box q has posted, where what the others posted stays.
     pub(crate) fn enter_posted(&mut self, q: BoxNumber)
         requires { q.0 < self.old.n }
         ensures posted { self.new.posted ≡ set_of (λ i. member self.old.posted i || i == q.0) }
@@ -128,7 +128,7 @@ impl Roster {
         Ok(self.posted.contains(q) && !is_lost)
     }
 
-    // Gives box p what it hears of box q, where these would be the bytes that q posted.
+    // Gives box p what it hears of box q, where `frame` is what q has posted, if it has.
     #[tactic(auto, unfolding(crate::specs::Meaning::fetching))]
     pub(crate) fn fetch(
         &self,
