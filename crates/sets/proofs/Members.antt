@@ -1,11 +1,11 @@
 -- Members of sets that tests make. Assumes nothing.
-use Rattle.std.proofs.Common.{◌≡◌, ℕ, suc, ◌^◌, ◌<◌, ◌≤◌, Bool, true, false, not, ◌&&◌, ◌||◌, eqb, leb, ltb, refl, ap, ◌∙◌, lt_of_lt_of_le, pow_mono, arith}
+use Rattle.std.proofs.Common.{◌≡◌, ℕ, ◌^◌, ◌<◌, ◌≤◌, Bool, true, false, not, ◌&&◌, ◌||◌, eqb, leb, ltb, refl, ap, ◌∙◌, lt_of_lt_of_le, pow_mono, arith}
 use Rattle.std.proofs.lemmas.Bool.Decides.{nat_tests}
 use Rattle.sets.specs.declared.set.BoxSet.{BoxSet}
 use Rattle.sets.specs.Tests.{any, count}
 use Rattle.sets.specs.Masks.{member, set_of}
 use Rattle.sets.proofs.Bits.{bit_high, bit-mask_of, mask_below, set_ext, set_is}
-use Rattle.sets.proofs.Counts.{any_none, count_ext, count_le, count_more, count_none}
+use Rattle.sets.proofs.Counts.{any_none, count_ext, count_le, count_none}
 
 -- whether a number below 32 is in the set that a test makes
 pub member_is : (P : ℕ → Bool) (s : BoxSet) → s ≡ set_of P → (i : ℕ) → i < 32 → member s i ≡ P i
@@ -66,6 +66,3 @@ module _ (n q : ℕ) (s t : BoxSet) (few : n ≤ 32) (h : s.mask < 2 ^ n) (l : q
 
   pub entered_within : t.mask < 2 ^ n
   entered_within = (mask_below n t.mask).1 (λ i m. let b = bit_high n s.mask i h m in let r = entering i in grind (arith, nat_tests))
-
-  pub entered_counts : member s q ≡ false → count (member t) 32 ≡ suc (count (member s) 32)
-  entered_counts f = count_ext (member t) (λ k. member s k || eqb k q) 32 (λ k _. entering k) ∙ count_more (member s) 32 q (omega arith) f

@@ -13,7 +13,7 @@ use Rattle.wire.specs.Rosters.{some_if, shown}
 pub meaning_ext : (a b : Meaning) → a.n ≡ b.n → a.up ≡ b.up → ((q : ℕ) → a.lost q ≡ b.lost q) → ((q : ℕ) → a.posted q ≡ b.posted q) → a ≡ b
 meaning_ext a b n up lost posted = λ i. record { n = n i; up = up i; lost = λ q. lost q i; posted = λ q. posted q i }
 
-pub is_some_if : {X : Type 0} (b : Bool) (x : X) → is_some (some_if b x) ≡ b
+is_some_if : {X : Type 0} (b : Bool) (x : X) → is_some (some_if b x) ≡ b
 is_some_if true x = refl
 is_some_if false x = refl
 

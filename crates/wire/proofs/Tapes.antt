@@ -20,7 +20,7 @@ use Rattle.wire.proofs.Lists.{replaced}
 
 -- ---- the sum of f over the numbers that pass
 
-pub total_none : (P : ℕ → Bool) (f : ℕ → ℕ) (n : ℕ) → ((k : ℕ) → P k ≡ false) → total P f n ≡ 0
+total_none : (P : ℕ → Bool) (f : ℕ → ℕ) (n : ℕ) → ((k : ℕ) → P k ≡ false) → total P f n ≡ 0
 unfolding total
 total_none P f zero e = refl
 total_none P f (suc n) e =
@@ -28,7 +28,7 @@ total_none P f (suc n) e =
     let here = e 0 in
     grind arith
 
-pub total_ext : (P Q : ℕ → Bool) (f g : ℕ → ℕ) (n : ℕ) → ((k : ℕ) → k < n → P k ≡ Q k) → ((k : ℕ) → k < n → P k ≡ true → f k ≡ g k) → total P f n ≡ total Q g n
+total_ext : (P Q : ℕ → Bool) (f g : ℕ → ℕ) (n : ℕ) → ((k : ℕ) → k < n → P k ≡ Q k) → ((k : ℕ) → k < n → P k ≡ true → f k ≡ g k) → total P f n ≡ total Q g n
 unfolding total
 total_ext P Q f g zero p e = refl
 total_ext P Q f g (suc n) p e =
@@ -38,7 +38,7 @@ total_ext P Q f g (suc n) p e =
     grind (arith, here, same, rest)
 
 -- one number more that passes
-pub total_more : (P : ℕ → Bool) (f g : ℕ → ℕ) (n q : ℕ) → q < n → P q ≡ false → ((k : ℕ) → eqb k q ≡ false → P k ≡ true → g k ≡ f k)
+total_more : (P : ℕ → Bool) (f g : ℕ → ℕ) (n q : ℕ) → q < n → P q ≡ false → ((k : ℕ) → eqb k q ≡ false → P k ≡ true → g k ≡ f k)
     → total (λ k. P k || eqb k q) g n ≡ total P f n + g q
 unfolding total
 total_more P f g zero q l e b = absurd (not-suc-le-zero l)
@@ -90,7 +90,7 @@ pub record Appended (t : Tape) (q : ℕ) (f bytes : List ℕ) (s : Span) : Type 
   pub end : s.end ≡ length t.frames.items + length f
 
 module _ {t : Tape} {q : ℕ} {f bytes : List ℕ} {s : Span} (w : Appended t q f bytes s) where
-  abbrev pub after : List Span
+  abbrev after : List Span
   after = set t.spans q s
 
   pub there : (span_at after q ≡ s) × ((i : ℕ) → eqb i q ≡ false → span_at after i ≡ span_at t.spans i)
@@ -128,22 +128,22 @@ module _ {t : Tape} {q : ℕ} {f bytes : List ℕ} {s : Span} (w : Appended t q 
           let c = there.1 j y in
           rw (there.1 i x, there.1 j y) a
 
+  as_long : length bytes ≡ length t.frames.items + length f
+  as_long = rw w.items (length-append t.frames.items f)
+
   pub filled_more : (P : ℕ → Bool) → member t.roster.posted q ≡ false → q < 32 → ((k : ℕ) → P k ≡ (member t.roster.posted k || eqb k q))
       → length bytes ≡ total P (span_length after) 32
   filled_more P vacant l more =
       let sum = total_more (member t.roster.posted) (span_length t.spans) (span_length after) 32 q l vacant (λ k y _. ap (λ (z : Span). z.end - z.start) (there.1 k y)) in
       let all = total_ext P (λ k. member t.roster.posted k || eqb k q) (span_length after) (span_length after) 32 (λ k _. more k) (λ _ _ _. refl) in
-      let long : length bytes ≡ length t.frames.items + length f = rw w.items (length-append t.frames.items f) in
       let own : span_length after q ≡ length f = omega (arith, ap (λ (z : Span). z.start) there.0, ap (λ (z : Span). z.end) there.0, w.start, w.end) in
-      omega (arith, t.filled)
+      omega (arith, t.filled, as_long)
 
   pub holds_more : is_postable f ≡ true → Holds (length bytes) (span_at after q)
   holds_more e =
       let p = postable_length f e in
-      let long : length bytes ≡ length t.frames.items + length f = rw w.items (length-append t.frames.items f) in
-      subst (Holds (length bytes)) (sym there.0) (omega (arith, p, w.start, w.end), omega (arith, p, w.start, w.end), omega (arith, w.end))
+      subst (Holds (length bytes)) (sym there.0) (omega (arith, p, w.start, w.end), omega (arith, p, w.start, w.end), omega (arith, w.end, as_long))
 
   pub held_before : (i : ℕ) → member t.roster.posted i ≡ true → Holds (length bytes) (span_at t.spans i)
   held_before i m =
-      let long : length bytes ≡ length t.frames.items + length f = rw w.items (length-append t.frames.items f) in
-      ((t.holds i m).0, (t.holds i m).1, omega (arith, (t.holds i m).2))
+      ((t.holds i m).0, (t.holds i m).1, omega (arith, (t.holds i m).2, as_long))

@@ -1,4 +1,4 @@
--- Every wire means something well formed. Assumes nothing.
+-- What every board and every tape means is well formed. Assumes nothing.
 use Rattle.std.specs.Prelude.{◌≡◌, ℕ, ◌-◌, ◌<◌, true, false, List, length, Some, ◌⊎◌}
 use Rattle.std.proofs.Common.{subst, inl, inr, arith}
 use Rattle.std.proofs.lemmas.List.Edits.{length-between}

@@ -100,7 +100,11 @@ or_kept m r = result_unwrap_or r m
 
 -- ---- fetching
 
--- whether there is such a set and the box is in it
+-- x, unless box p or q is none of the company's
+abbrev pub unless_stranger : {X : Type 0} → (p q : ℕ) → Meaning → X → Result X Refusal
+unless_stranger p q m x = unless ((nat_le m.n p || nat_le m.n q, refusal.Stranger) ∷ []) x
+
+-- whether the box is in the set, if there is one
 abbrev pub is_in : ℕ → Option BoxSet → Bool
 is_in p None = false
 is_in p (Some s) = member s p

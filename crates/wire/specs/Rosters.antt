@@ -1,12 +1,10 @@
 -- What a roster tells of a wire. Assumes nothing.
-use Rattle.std.specs.Prelude.{ℕ, Bool, cond, ◌||◌, List, [], ◌∷◌, is_some, Some, None, Option, Result, nat_le}
+use Rattle.std.specs.Prelude.{ℕ, Bool, cond, List, is_some, Some, None, Option, Result}
 use Rattle.numbers.specs.declared.refusal.Refusal.{Refusal}
-use Rattle.numbers.specs.declared.refusal.Refusal.TheVariants.{Stranger}
-use Rattle.numbers.specs.Refusals.{unless}
 use Rattle.sets.specs.Masks.{member}
 use Rattle.wire.specs.declared.roster.Roster.{Roster}
 use Rattle.wire.specs.Kept.{set_at}
-use Rattle.wire.specs.Meaning.{Meaning, heard}
+use Rattle.wire.specs.Meaning.{Meaning, heard, unless_stranger}
 
 -- x if the test passes
 abbrev pub some_if : {X : Type 0} → Bool → X → Option X
@@ -23,4 +21,4 @@ shown r frames = record {
 
 -- whether there is something that box p hears of box q
 abbrev pub reaching : (p q : ℕ) → Meaning → Result Bool Refusal
-reaching p q m = unless ((nat_le m.n p || nat_le m.n q, Stranger) ∷ []) (is_some (heard m p q))
+reaching p q m = unless_stranger p q m (is_some (heard m p q))

@@ -16,7 +16,7 @@ const TAPE_ROOM: usize = PLACES * LONGEST_FRAME;
 #[derive(Drop, Debug)]
 pub struct Tape {
     pub(crate) roster: Roster,
-    // By the number of the box; of no meaning where it has not posted. No byte is in two spans, and each is in one.
+    // By the number of the box; of no meaning where it has not posted. Each byte is in the span of just one that has.
     pub(crate) spans: [Span; PLACES],
     pub(crate) frames: ArrayVec<u8, TAPE_ROOM>,
     ghost holds: { (q : ℕ) → member roster.posted q ≡ true → Holds (length frames.items) (span_at spans q) },

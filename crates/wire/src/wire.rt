@@ -1,4 +1,4 @@
-// What joins the boxes of a company. Code above sees a wire by its meaning alone: which boxes are up, the lost set of each box that is
+// What joins the boxes of a company. Code above sees a wire by its meaning alone: how many boxes it joins, which are up, the lost set of each box that is
 // falling (the boxes that do not hear what it sends), and what each has posted.
 ghost use Rattle.std.specs.Prelude.{◌≡◌, length};
 ghost use Rattle.wire.specs.Kept.{is_postable};
@@ -22,7 +22,7 @@ pub trait Wire {
     fn falling(&self) -> BoxSet
         ensures { result ≡ falling_set (meaning self.now) };
 
-    // The boxes that have posted since a round was opened.
+    // The boxes that have posted since the last opening of a round, or at all if there was none.
     fn posted(&self) -> BoxSet
         ensures { result ≡ posted_set (meaning self.now) };
 

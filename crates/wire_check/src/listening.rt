@@ -1,9 +1,7 @@
 // What one box hears of another, over any wire.
-ghost use Rattle.std.specs.Prelude.{◌≡◌, ◌||◌, [], ◌∷◌, option_map, length, Ok, nat_le};
+ghost use Rattle.std.specs.Prelude.{◌≡◌, option_map, length, Ok};
 ghost use Rattle.std.specs.Result.{result_unwrap_or};
-ghost use Rattle.numbers.specs.declared.refusal.Refusal.TheVariants.{Stranger};
-ghost use Rattle.numbers.specs.Refusals.{unless};
-ghost use Rattle.wire.specs.Meaning.{heard, laid};
+ghost use Rattle.wire.specs.Meaning.{heard, unless_stranger, laid};
 
 use frames::LONGEST_FRAME;
 use numbers::Refusal;
@@ -18,8 +16,8 @@ pub fn hear_box<W: Wire>(
     q: BoxNumber,
     line: &mut [u8; LONGEST_FRAME],
 ) -> Result<Option<usize>, Refusal>
-    ensures answer { let m = W.meaning wire.now in result ≡ unless ((nat_le m.n p.0 || nat_le m.n q.0, Stranger) ∷ []) (option_map length (heard m p.0 q.0)) }
-    ensures line { let m = W.meaning wire.now in line.new ≡ result_unwrap_or (unless ((nat_le m.n p.0 || nat_le m.n q.0, Stranger) ∷ []) (laid (Ok (heard m p.0 q.0)) line.old)) line.old }
+    ensures answer { let m = W.meaning wire.now in result ≡ unless_stranger p.0 q.0 m (option_map length (heard m p.0 q.0)) }
+    ensures line { let m = W.meaning wire.now in line.new ≡ result_unwrap_or (unless_stranger p.0 q.0 m (laid (Ok (heard m p.0 q.0)) line.old)) line.old }
 {
     wire.fetch(p, q, line)
 }

@@ -95,6 +95,12 @@ fn refuses<W: Wire>(rt: &impl Abort, wire: &mut W) -> Result<(), Fail> {
     hears_nothing(rt, wire, 0, 1);
     hears(rt, wire, 3, 1, b"\x09");
     wire.close();
+    // Down counts before posted.
+    assert_eq!(rt; posts(wire, 1, b"\x09"), Err(Refusal::Down));
+    // After the close what stands posted stays, and a box that has not may still post.
+    hears(rt, wire, 0, 1, b"\x09");
+    posts(wire, 0, b"\x0a")?;
+    shows(rt, wire, 0b1101, 0, 0b0011);
     wire.open();
     assert_eq!(rt; falls(wire, 1, 0), Err(Refusal::Down));
     shows(rt, wire, 0b1101, 0, 0);
@@ -223,6 +229,12 @@ fn exchanges<W: Wire>(rt: &impl Abort, wire: &mut W) -> Result<(), Fail> {
     assert_eq!(rt;
         exchange_frames(wire, p, q, b"\x09", &[], &mut to_p, &mut to_q),
         Err(Refusal::Narrow)
+    );
+    // A stranger is not up.
+    let stranger = BoxNumber(3);
+    assert_eq!(rt;
+        exchange_frames(wire, p, stranger, b"\x09", b"\x07", &mut to_p, &mut to_q),
+        Err(Refusal::Down)
     );
     assert_eq!(rt; silent(wire).mask(), 0b100);
     let lost = BoxSet::only(p);

@@ -6,6 +6,6 @@ use Rattle.wire_check.proofs.standing.silent.Goals as goal
 pub returns : goal.returns
 returns g c =
     let m = g.W.Wire.meaning c.args.wire.now in
-    difference_of (λ i. ltb i m.n) (λ i. is_some (m.posted i)) c.all_below.result c.posted.result c.difference.result c.difference.ensures
+    difference_of (λ i. ltb i m.n) (λ i. is_some (m.posted i)) _ _ c.difference.result c.difference.ensures
     (λ i l. let x = member_is _ c.all_below.result c.all_below.ensures i l in grind (arith, nat_tests, c.n.ensures))
     (member_is (λ i. is_some (m.posted i)) c.posted.result c.posted.ensures)

@@ -12,6 +12,6 @@ returns-clause-answer g c =
     let n = g.W.Wire.meaning c.fall.new.self in
     let r = falling c.args.q.0 c.args.lost m in
     let ok = accepted r m n (grind arith) c.fall.ensures.meaning in
-    let up = difference_of (member n.up) (λ i. is_some (n.lost i)) c.up.result c.falling.result c.difference.result c.difference.ensures
-    (λ i _. ap (λ s. member s i) c.up.ensures) (member_is (λ i. is_some (n.lost i)) c.falling.result c.falling.ensures) in
+    let up = difference_of (member n.up) (λ i. is_some (n.lost i)) _ _ c.difference.result c.difference.ensures (λ i _. grind (arith, c.up.ensures))
+    (λ i l. let f = member_is (λ k. is_some (n.lost k)) c.falling.result c.falling.ensures i l in grind arith) in
     ap (λ s. Ok s) up ∙ sym (ap (result_map_both (λ k. (closed k).up) (λ e. e)) ok)

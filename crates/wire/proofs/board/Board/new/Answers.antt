@@ -1,4 +1,5 @@
 use Rattle.std.proofs.Common.{[], arith}
+use Rattle.wire.specs.Lines.{line_frame}
 use Rattle.wire.proofs.Shown.{absent}
 use Rattle.wire.proofs.board.Board.new.Goals as goal
 
@@ -9,4 +10,4 @@ pub invariant_of-result : goal.invariant_of-result
 invariant_of-result c = record { postable = λ q t. absent _ c.in_ok-new.ensures.posted q t }
 
 pub returns : goal.returns
-returns c = c.in_ok-new.ensures.made _
+returns c = let h = c.in_ok-new.ensures.made (line_frame c.from_fn.result) in cc

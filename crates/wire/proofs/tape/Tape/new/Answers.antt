@@ -1,4 +1,5 @@
-use Rattle.std.proofs.Common.{[], arith}
+use Rattle.std.proofs.Common.{[], replicate, arith}
+use Rattle.wire.specs.Spans.{no_span, tape_frame}
 use Rattle.wire.proofs.Shown.{absent}
 use Rattle.wire.proofs.Tapes.{none_filled}
 use Rattle.wire.proofs.tape.Tape.new.Goals as goal
@@ -15,4 +16,4 @@ invariant_of-result c =
     }
 
 pub returns : goal.returns
-returns c = c.in_ok-new.ensures.made _
+returns c = let h = c.in_ok-new.ensures.made (tape_frame (replicate 32 no_span) c.new-2.result.items) in cc
