@@ -1,0 +1,4 @@
+pub mod Falls
+pub mod Histories
+pub mod Values
+pub mod Theorems

@@ -1,0 +1,36 @@
+-- What the rule gives each box in each round, from who hears whom. Assumes nothing.
+use Rattle.std.specs.Prelude.{ℕ, zero, suc, ◌+◌, ◌-◌, min, Bool, false, not, ◌&&◌, ◌==◌, unwrap_or}
+use Rattle.sets.specs.Tests.{any, count}
+use Rattle.kinds.specs.Orders.{foremost}
+use Rattle.rule.specs.Falls.{hears}
+use Rattle.rule.specs.Histories.{History}
+
+module _ {K : Type 0} (h : History K) where
+  -- the missing set of box p after round r: the boxes that it did not hear in the round, and none at the start
+  unfoldable pub missed : ℕ → ℕ → ℕ → Bool
+  missed p zero q = false
+  missed p (suc r) q = not (hears h.falls p (suc r) q)
+
+  -- the boxes that p knows to be missing by round r: those in the sets sent to it in that round, its own among them. These are the
+  -- missing sets of the round before
+  unfoldable pub known : ℕ → ℕ → ℕ → Bool
+  known p zero q = false
+  known p (suc r) q = any (λ x. hears h.falls p (suc r) x && missed x r q) h.n
+
+  -- the horizon of p in round r
+  abbrev pub horizon : ℕ → ℕ → ℕ
+  horizon p r = r + h.t - count (known p r) h.n
+
+  -- its best horizon: the smallest of t + 1 and its horizons in the rounds 1 to r
+  unfoldable pub best_horizon : ℕ → ℕ → ℕ
+  best_horizon p zero = h.t + 1
+  best_horizon p (suc r) = min (best_horizon p r) (horizon p (suc r))
+
+  -- it rings in round r: that is its best horizon
+  abbrev pub rings : ℕ → ℕ → Bool
+  rings p r = best_horizon p r == r
+
+  -- its estimate after round r: of the estimates of those that it heard, its own among them, the one that goes first
+  unfoldable pub estimate : (K → K → Bool) → ℕ → ℕ → K
+  estimate leads p zero = h.proposals p
+  estimate leads p (suc r) = unwrap_or (foremost leads (hears h.falls p (suc r)) (λ q. estimate leads q r) h.n) (estimate leads p r)

@@ -1,0 +1,6 @@
+// The rule by which the boxes ring: who hears whom where boxes fall, and what follows from it, with no box and no frame.
+#![tactic(auto)]
+
+mod falls;
+
+pub use falls::Fall;
