@@ -1,0 +1,95 @@
+-- Who closes a round, who hears whom in it, who is found missing. Assumes nothing.
+use Rattle.std.proofs.Common.{◌≡◌, ℕ, zero, suc, ◌<◌, ◌≤◌, Bool, true, false, not, ◌&&◌, ◌||◌, eqb, ltb, Some, None, Option, refl, ap, ◌∙◌, arith}
+use Rattle.std.proofs.Math.Decide.{le_ind}
+use Rattle.std.proofs.lemmas.Bool.Decides.{nat_tests}
+use Rattle.sets.specs.Tests.{any}
+use Rattle.sets.proofs.Counts.{any_from, any_has}
+use Rattle.rule.specs.declared.falls.Fall.{Fall}
+use Rattle.rule.specs.Falls.{Falls, fell_before, fell_in, fell_unheard, closes, hears, found_missing}
+
+-- ---- one box that falls
+
+fell_next : (o : Option Fall) (r : ℕ) → fell_before o (suc r) ≡ (fell_before o r || fell_in o r)
+fell_next None r = refl
+fell_next (Some f) r = grind (arith, nat_tests)
+
+fell_once : (o : Option Fall) (r : ℕ) → fell_before o r ≡ true → fell_in o r ≡ false
+fell_once None r e = refl
+fell_once (Some f) r e = grind (arith, nat_tests)
+
+unheard_fell : (o : Option Fall) (r p : ℕ) → fell_unheard o r p ≡ true → fell_in o r ≡ true
+unheard_fell None r p e = e
+unheard_fell (Some f) r p e = grind arith
+
+module _ (falls : Falls) where
+  -- ---- who closes
+
+  pub closed_before : (p r : ℕ) → closes falls p (suc r) ≡ true → closes falls p r ≡ true
+  unfolding closes
+  closed_before p r c = let n = fell_next (falls p) r in grind arith
+
+  pub closed_from : (p a b : ℕ) → a ≤ b → closes falls p b ≡ true → closes falls p a ≡ true
+  closed_from p a b l = le_ind (λ (m : ℕ). closes falls p m ≡ true → closes falls p a ≡ true) (λ c. c) (λ m k e c. e (closed_before p m c)) b l
+
+  -- to fall before round r + 1 is not to close round r
+  pub fell_closes : (q r : ℕ) → fell_before (falls q) (suc r) ≡ not (closes falls q r)
+  unfolding closes
+  fell_closes q r = let n = fell_next (falls q) r in grind arith
+
+  before_open : (q r : ℕ) → fell_before (falls q) r ≡ true → closes falls q r ≡ false
+  unfolding closes
+  before_open q r e = grind arith
+
+  unheard_open : (q r p : ℕ) → fell_unheard (falls q) r p ≡ true → closes falls q r ≡ false
+  unfolding closes
+  unheard_open q r p e = let f = unheard_fell (falls q) r p e in grind arith
+
+  -- ---- who hears whom
+
+  pub hears_itself : (p r : ℕ) → hears falls p r p ≡ true
+  unfolding hears
+  hears_itself p r = grind (arith, nat_tests)
+
+  -- who is heard in round r + 1 closed round r
+  pub heard_closed : (p r x : ℕ) → closes falls p (suc r) ≡ true → hears falls p (suc r) x ≡ true → closes falls x r ≡ true
+  unfolding hears
+  heard_closed p r x c e =
+      let a = closed_before p r c in
+      let b = fell_closes x r in
+      grind (arith, nat_tests)
+
+  -- who closes a round is heard in it by all
+  pub closing_heard : (p r x : ℕ) → closes falls x r ≡ true → hears falls p r x ≡ true
+  unfolding hears
+  closing_heard p r x c =
+      let a = before_open x r in
+      let b = unheard_open x r p in
+      grind arith
+
+  -- ---- who is found missing
+
+  module _ (n : ℕ) where
+    pub missing_open : (r q : ℕ) → found_missing falls n r q ≡ true → closes falls q r ≡ false
+    unfolding found_missing
+    missing_open r q e = by (any_has (λ p. fell_unheard (falls q) r p && closes falls p r) n)
+      where
+        some : (p : ℕ) × (p < n) × ((fell_unheard (falls q) r p && closes falls p r) ≡ true) → closes falls q r ≡ false
+        some (p, l, t) = unheard_open q r p (grind arith)
+        by : (any (λ p. fell_unheard (falls q) r p && closes falls p r) n ≡ true
+            → (p : ℕ) × (p < n) × ((fell_unheard (falls q) r p && closes falls p r) ≡ true)) → closes falls q r ≡ false
+        by has =
+            let b = before_open q r in
+            let u : any (λ p. fell_unheard (falls q) r p && closes falls p r) n ≡ true → closes falls q r ≡ false = λ t. some (has t) in
+            grind arith
+
+    -- who is missing stays so
+    pub missing_stays : (r q : ℕ) → found_missing falls n r q ≡ true → found_missing falls n (suc r) q ≡ true
+    unfolding found_missing
+    missing_stays r q e = let o = missing_open r q e in let b = fell_closes q r in grind arith
+
+    -- whom a box that closes the round does not hear is found missing
+    pub not_heard_missing : (p r q : ℕ) → p < n → closes falls p r ≡ true → hears falls p r q ≡ false → found_missing falls n r q ≡ true
+    unfolding found_missing hears
+    not_heard_missing p r q l c e =
+        let a = any_from (λ x. fell_unheard (falls q) r x && closes falls x r) n p l in
+        grind arith
