@@ -3,7 +3,7 @@ use Rattle.std.proofs.Common.{◌≡◌, ℕ, zero, suc, ◌<◌, ◌≤◌, Boo
 use Rattle.std.proofs.Math.Decide.{le_ind}
 use Rattle.std.proofs.lemmas.Bool.Decides.{nat_tests}
 use Rattle.sets.specs.Tests.{any}
-use Rattle.sets.proofs.Counts.{any_from, any_has}
+use Rattle.sets.proofs.Counts.{any_from, any_has, none_any}
 use Rattle.rule.specs.declared.falls.Fall.{Fall}
 use Rattle.rule.specs.Falls.{Falls, fell_before, fell_in, fell_unheard, closes, hears, found_missing}
 
@@ -66,7 +66,25 @@ module _ (falls : Falls) where
       let b = unheard_open x r p in
       grind arith
 
+  -- a box that closes a round does not hear in it who fell before, nor who fell in it unheard by the box
+  pub fell_not_heard : (p r q : ℕ) → closes falls p r ≡ true → (fell_before (falls q) r || fell_unheard (falls q) r p) ≡ true → hears falls p r q ≡ false
+  unfolding hears
+  fell_not_heard p r q c e =
+      let a = before_open q r in
+      let b = unheard_open q r p in
+      let other : eqb q p ≡ false = grind (arith, nat_tests) in
+      grind arith
+
   -- ---- who is found missing
+
+  -- rounds count from 1: nobody is missing at the start
+  pub none_missing : ((q : ℕ) → fell_before (falls q) 1 ≡ false) → (n q : ℕ) → found_missing falls n 0 q ≡ false
+  unfolding found_missing
+  none_missing dated n q =
+      let d = dated q in
+      let s = fell_next (falls q) 0 in
+      let a = none_any (λ p. fell_unheard (falls q) 0 p && closes falls p 0) n (λ p _. let u = unheard_fell (falls q) 0 p in grind arith) in
+      grind arith
 
   module _ (n : ℕ) where
     pub missing_open : (r q : ℕ) → found_missing falls n r q ≡ true → closes falls q r ≡ false
