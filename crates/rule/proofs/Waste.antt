@@ -1,0 +1,85 @@
+-- How many are missing, the horizons that come of it, and the waste. Assumes nothing.
+use Rattle.std.proofs.Common.{◌≡◌, ℕ, zero, suc, ◌+◌, ◌-◌, ◌<◌, ◌≤◌, max, min, Bool, true, false, ◌⊎◌, is_some, Some, None, Option, refl, ap, ◌∙◌, ◌||◌, inl, inr, arith}
+use Rattle.std.proofs.Math.Decide.{le_ind}
+use Rattle.std.proofs.lemmas.Bool.{cases_lt}
+use Rattle.std.proofs.lemmas.Bool.Decides.{nat_tests}
+use Rattle.sets.specs.Tests.{count}
+use Rattle.sets.proofs.Counts.{count_le, count_none, count_ext, count_same}
+use Rattle.rule.specs.declared.falls.Fall.{Fall}
+use Rattle.rule.specs.Falls.{fell_before, fell_in, closes, found_missing, missing_count, waste}
+use Rattle.rule.specs.Histories.{History, Allowed}
+use Rattle.rule.specs.Values.{known, horizon, best_horizon, rings}
+use Rattle.rule.specs.Theorems.{QuietBefore}
+use Rattle.rule.proofs.Rounds.{closed_before, closed_from, missing_open, missing_stays, none_missing}
+use Rattle.rule.proofs.Clean.{Clean, known_missing, clean_known}
+
+-- who closes no round has fallen
+open_fell : (o : Option Fall) (r : ℕ) → (fell_before o r || fell_in o r) ≡ true → is_some o ≡ true
+open_fell None r e = e
+open_fell (Some f) r e = refl
+
+module _ {K : Type 0} (h : History K) where
+  -- how many are found missing in round r
+  abbrev lacking : ℕ → ℕ
+  lacking r = missing_count h.falls h.n r
+
+  known_count : (p r : ℕ) → closes h.falls p (suc r) ≡ true → count (known h p (suc r)) h.n ≤ lacking r
+  known_count p r c = count_le (known h p (suc r)) (found_missing h.falls h.n r) h.n (λ q l. known_missing h p r q c)
+
+  -- a round in which no more are missing is clean
+  clean_by : (r : ℕ) → lacking (suc r) ≤ lacking r → Clean h r
+  clean_by r e =
+      let grown = count_le (found_missing h.falls h.n r) (found_missing h.falls h.n (suc r)) h.n (λ q _. missing_stays h.falls h.n r q) in
+      let same = count_same (found_missing h.falls h.n r) (found_missing h.falls h.n (suc r)) h.n (λ q _. missing_stays h.falls h.n r q) (omega arith) in
+      λ q l m. same q l ∙ m
+
+  missing_fell : (r q : ℕ) → found_missing h.falls h.n r q ≡ true → is_some (h.falls q) ≡ true
+  unfolding closes
+  missing_fell r q e = open_fell (h.falls q) r (let o = missing_open h.falls h.n r q e in grind arith)
+
+  -- the best horizon only comes nearer
+  best_down : (p a b : ℕ) → a ≤ b → best_horizon h p b ≤ best_horizon h p a
+  unfolding best_horizon
+  best_down p a b l = le_ind (λ (m : ℕ). best_horizon h p m ≤ best_horizon h p a) (omega arith) (λ m k e. omega arith) b l
+
+  module _ (allowed : Allowed h) where
+    lacking_few : (r : ℕ) → lacking r ≤ h.t
+    lacking_few r = omega (arith, count_le (found_missing h.falls h.n r) (λ q. is_some (h.falls q)) h.n (λ q _. missing_fell r q), allowed.few)
+
+    lacking_none : lacking 0 ≡ 0
+    lacking_none = count_ext (found_missing h.falls h.n 0) (λ _. false) h.n (λ q _. none_missing h.falls allowed.dated h.n q) ∙ count_none h.n
+
+    clean_count : (p r : ℕ) → p < h.n → closes h.falls p (suc r) ≡ true → Clean h r → lacking r ≤ count (known h p (suc r)) h.n
+    clean_count p r l c k = count_le (found_missing h.falls h.n r) (known h p (suc r)) h.n (λ q _. clean_known h allowed.dated p r q l c k)
+
+    -- it is never below what the waste of the rounds before allows
+    best_waste : (p r : ℕ) → closes h.falls p (suc r) ≡ true → h.t + 1 ≤ best_horizon h p (suc r) + waste h.falls h.n r
+    unfolding best_horizon waste
+    best_waste p zero c = let a = known_count p 0 c in let b = lacking_none in omega arith
+    best_waste p (suc r) c =
+        let ih = best_waste p r (closed_before h.falls p (suc r) c) in
+        let a = known_count p (suc r) c in
+        let b = lacking_few (suc r) in
+        omega arith
+
+    -- nor, where nobody rang before, below the round
+    best_late : (p r : ℕ) → p < h.n → closes h.falls p r ≡ true → QuietBefore h r → r ≤ best_horizon h p r
+    unfolding best_horizon
+    best_late p zero l c quiet = omega arith
+    best_late p (suc r) l c quiet =
+        let d = closed_before h.falls p r c in
+        let ih = best_late p r l d (λ q k m s. quiet q k m (omega arith)) in
+        let s = quiet p r l (omega arith) d in
+        let a = known_count p r c in
+        let b = lacking_few r in
+        grind (arith, nat_tests)
+
+    -- after a clean round it is at most t + 1 less the excess there
+    best_clean : (p r k : ℕ) → p < h.n → closes h.falls p k ≡ true → suc r ≤ k → lacking (suc r) ≤ lacking r → best_horizon h p k + lacking r ≤ h.t + suc r
+    unfolding best_horizon
+    best_clean p r k l c m e =
+        let d = closed_from h.falls p (suc r) k m c in
+        let a = clean_count p r l d (clean_by r e) in
+        let b = best_down p (suc r) k m in
+        let f = lacking_few r in
+        omega arith
