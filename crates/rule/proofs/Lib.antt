@@ -1,3 +1,4 @@
 pub mod Rounds
 pub mod Clean
 pub mod Waste
+pub mod Estimates

@@ -1,5 +1,5 @@
 -- How many are missing, the horizons that come of it, and the waste. Assumes nothing.
-use Rattle.std.proofs.Common.{◌≡◌, ℕ, zero, suc, ◌+◌, ◌-◌, ◌<◌, ◌≤◌, max, min, Bool, true, false, ◌⊎◌, is_some, Some, None, Option, refl, ap, ◌∙◌, ◌||◌, inl, inr, arith}
+use Rattle.std.proofs.Common.{◌≡◌, ℕ, zero, suc, ◌+◌, ◌-◌, ◌<◌, ◌≤◌, max, min, Bool, true, false, ◌⊎◌, is_some, Some, None, Option, refl, ap, ◌∙◌, ◌||◌, inl, inr, ⊎_elim, arith}
 use Rattle.std.proofs.Math.Decide.{le_ind}
 use Rattle.std.proofs.lemmas.Bool.{cases_lt}
 use Rattle.std.proofs.lemmas.Bool.Decides.{nat_tests}
@@ -83,3 +83,59 @@ module _ {K : Type 0} (h : History K) where
         let b = best_down p (suc r) k m in
         let f = lacking_few r in
         omega arith
+
+    waste_few : (r : ℕ) → waste h.falls h.n r ≤ h.t
+    unfolding waste
+    waste_few zero = omega arith
+    waste_few (suc r) = omega (arith, waste_few r, lacking_few (suc r))
+
+    -- the last round up to k that reaches their waste: the round after it is clean, unless it is k itself
+    record Peak (k : ℕ) : Type 0 where
+      top : ℕ
+      under : top ≤ k
+      reached : lacking top ≡ top + waste h.falls h.n k
+      next : (top ≡ k) ⊎ (lacking (suc top) ≤ lacking top)
+
+    peak : (k : ℕ) → Peak k
+    unfolding waste
+    peak zero = record { top = 0; under = omega arith; reached = omega (arith, lacking_none); next = inl (omega arith) }
+    peak (suc k) = by (peak k) (cases_lt (lacking (suc k)) (suc k + waste h.falls h.n k))
+      where
+        still : (q : Peak k) → lacking (suc k) < suc k + waste h.falls h.n k → (q.top ≡ k) ⊎ (lacking (suc q.top) ≤ lacking q.top) → lacking (suc q.top) ≤ lacking q.top
+        still q b (inl e) = let f : lacking (suc q.top) ≡ lacking (suc k) = ap (λ r. lacking (suc r)) e in omega (arith, q.reached)
+        still q b (inr d) = d
+        by : Peak k → (lacking (suc k) < suc k + waste h.falls h.n k) ⊎ (suc k + waste h.falls h.n k ≤ lacking (suc k)) → Peak (suc k)
+        by q (inl b) = record { top = q.top; under = omega (arith, q.under); reached = omega (arith, q.reached); next = inr (still q b q.next) }
+        by q (inr b) = record { top = suc k; under = omega arith; reached = omega arith; next = inl refl }
+
+    -- where round k + 1 is t + 1 - D, the round after the peak of those before it is clean
+    peak_clean : (k : ℕ) (q : Peak k) → suc k + waste h.falls h.n k ≡ h.t + 1 → lacking (suc q.top) ≤ lacking q.top
+    peak_clean k q e = ⊎_elim (λ i. omega (arith, q.reached, lacking_few (suc q.top))) (λ d. d) q.next
+
+    -- that round's own missing add nothing to the waste
+    waste_last : (k : ℕ) → suc k + waste h.falls h.n (suc k) ≡ h.t + 1 → suc k + waste h.falls h.n k ≡ h.t + 1
+    unfolding waste
+    waste_last k e = omega (arith, lacking_few (suc k))
+
+    waste_next : (k : ℕ) → suc k + waste h.falls h.n k ≡ h.t + 1 → suc k + waste h.falls h.n (suc k) ≡ h.t + 1
+    unfolding waste
+    waste_next k e = omega (arith, lacking_few (suc k))
+
+    -- ---- a box that closes round k + 1 rings in it exactly if that is t + 1 - D
+
+    module _ (p k : ℕ) (l : p < h.n) (c : closes h.falls p (suc k) ≡ true) (late : suc k ≤ best_horizon h p (suc k)) where
+      rings_when : best_horizon h p (suc k) ≡ suc k → suc k + waste h.falls h.n (suc k) ≡ h.t + 1
+      rings_when e =
+          let s = best_waste p k c in
+          let q = peak k in
+          waste_next k (⊎_elim
+          (λ i. omega (arith, lacking_few q.top, q.reached))
+          (λ d. let b = best_clean p q.top (suc k) l c (omega (arith, q.under)) d in omega (arith, q.reached))
+          q.next)
+
+      rings_then : suc k + waste h.falls h.n (suc k) ≡ h.t + 1 → best_horizon h p (suc k) ≡ suc k
+      rings_then e =
+          let q = peak k in
+          let s = waste_last k e in
+          let b = best_clean p q.top (suc k) l c (omega (arith, q.under)) (peak_clean k q s) in
+          omega (arith, q.reached)
