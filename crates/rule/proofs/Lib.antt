@@ -2,3 +2,4 @@ pub mod Rounds
 pub mod Clean
 pub mod Waste
 pub mod Estimates
+pub mod Agree

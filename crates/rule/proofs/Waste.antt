@@ -27,7 +27,7 @@ module _ {K : Type 0} (h : History K) where
   known_count p r c = count_le (known h p (suc r)) (found_missing h.falls h.n r) h.n (λ q l. known_missing h p r q c)
 
   -- a round in which no more are missing is clean
-  clean_by : (r : ℕ) → lacking (suc r) ≤ lacking r → Clean h r
+  pub clean_by : (r : ℕ) → lacking (suc r) ≤ lacking r → Clean h r
   clean_by r e =
       let grown = count_le (found_missing h.falls h.n r) (found_missing h.falls h.n (suc r)) h.n (λ q _. missing_stays h.falls h.n r q) in
       let same = count_same (found_missing h.falls h.n r) (found_missing h.falls h.n (suc r)) h.n (λ q _. missing_stays h.falls h.n r q) (omega arith) in
@@ -43,7 +43,7 @@ module _ {K : Type 0} (h : History K) where
   best_down p a b l = le_ind (λ (m : ℕ). best_horizon h p m ≤ best_horizon h p a) (omega arith) (λ m k e. omega arith) b l
 
   module _ (allowed : Allowed h) where
-    lacking_few : (r : ℕ) → lacking r ≤ h.t
+    pub lacking_few : (r : ℕ) → lacking r ≤ h.t
     lacking_few r = omega (arith, count_le (found_missing h.falls h.n r) (λ q. is_some (h.falls q)) h.n (λ q _. missing_fell r q), allowed.few)
 
     lacking_none : lacking 0 ≡ 0
@@ -63,7 +63,7 @@ module _ {K : Type 0} (h : History K) where
         omega arith
 
     -- nor, where nobody rang before, below the round
-    best_late : (p r : ℕ) → p < h.n → closes h.falls p r ≡ true → QuietBefore h r → r ≤ best_horizon h p r
+    pub best_late : (p r : ℕ) → p < h.n → closes h.falls p r ≡ true → QuietBefore h r → r ≤ best_horizon h p r
     unfolding best_horizon
     best_late p zero l c quiet = omega arith
     best_late p (suc r) l c quiet =
@@ -84,19 +84,19 @@ module _ {K : Type 0} (h : History K) where
         let f = lacking_few r in
         omega arith
 
-    waste_few : (r : ℕ) → waste h.falls h.n r ≤ h.t
+    pub waste_few : (r : ℕ) → waste h.falls h.n r ≤ h.t
     unfolding waste
     waste_few zero = omega arith
     waste_few (suc r) = omega (arith, waste_few r, lacking_few (suc r))
 
     -- the last round up to k that reaches their waste: the round after it is clean, unless it is k itself
-    record Peak (k : ℕ) : Type 0 where
-      top : ℕ
-      under : top ≤ k
-      reached : lacking top ≡ top + waste h.falls h.n k
-      next : (top ≡ k) ⊎ (lacking (suc top) ≤ lacking top)
+    pub record Peak (k : ℕ) : Type 0 where
+      pub top : ℕ
+      pub under : top ≤ k
+      pub reached : lacking top ≡ top + waste h.falls h.n k
+      pub next : (top ≡ k) ⊎ (lacking (suc top) ≤ lacking top)
 
-    peak : (k : ℕ) → Peak k
+    pub peak : (k : ℕ) → Peak k
     unfolding waste
     peak zero = record { top = 0; under = omega arith; reached = omega (arith, lacking_none); next = inl (omega arith) }
     peak (suc k) = by (peak k) (cases_lt (lacking (suc k)) (suc k + waste h.falls h.n k))
@@ -109,11 +109,11 @@ module _ {K : Type 0} (h : History K) where
         by q (inr b) = record { top = suc k; under = omega arith; reached = omega arith; next = inl refl }
 
     -- where round k + 1 is t + 1 - D, the round after the peak of those before it is clean
-    peak_clean : (k : ℕ) (q : Peak k) → suc k + waste h.falls h.n k ≡ h.t + 1 → lacking (suc q.top) ≤ lacking q.top
+    pub peak_clean : (k : ℕ) (q : Peak k) → suc k + waste h.falls h.n k ≡ h.t + 1 → lacking (suc q.top) ≤ lacking q.top
     peak_clean k q e = ⊎_elim (λ i. omega (arith, q.reached, lacking_few (suc q.top))) (λ d. d) q.next
 
     -- that round's own missing add nothing to the waste
-    waste_last : (k : ℕ) → suc k + waste h.falls h.n (suc k) ≡ h.t + 1 → suc k + waste h.falls h.n k ≡ h.t + 1
+    pub waste_last : (k : ℕ) → suc k + waste h.falls h.n (suc k) ≡ h.t + 1 → suc k + waste h.falls h.n k ≡ h.t + 1
     unfolding waste
     waste_last k e = omega (arith, lacking_few (suc k))
 
@@ -124,7 +124,7 @@ module _ {K : Type 0} (h : History K) where
     -- ---- a box that closes round k + 1 rings in it exactly if that is t + 1 - D
 
     module _ (p k : ℕ) (l : p < h.n) (c : closes h.falls p (suc k) ≡ true) (late : suc k ≤ best_horizon h p (suc k)) where
-      rings_when : best_horizon h p (suc k) ≡ suc k → suc k + waste h.falls h.n (suc k) ≡ h.t + 1
+      pub rings_when : best_horizon h p (suc k) ≡ suc k → suc k + waste h.falls h.n (suc k) ≡ h.t + 1
       rings_when e =
           let s = best_waste p k c in
           let q = peak k in
@@ -133,7 +133,7 @@ module _ {K : Type 0} (h : History K) where
           (λ d. let b = best_clean p q.top (suc k) l c (omega (arith, q.under)) d in omega (arith, q.reached))
           q.next)
 
-      rings_then : suc k + waste h.falls h.n (suc k) ≡ h.t + 1 → best_horizon h p (suc k) ≡ suc k
+      pub rings_then : suc k + waste h.falls h.n (suc k) ≡ h.t + 1 → best_horizon h p (suc k) ≡ suc k
       rings_then e =
           let q = peak k in
           let s = waste_last k e in

@@ -19,6 +19,11 @@ unfolding count
 count_none zero = refl
 count_none (suc n) = let ih = count_none n in omega arith
 
+pub count_all : (n : ℕ) → count (λ _. true) n ≡ n
+unfolding count
+count_all zero = refl
+count_all (suc n) = let ih = count_all n in omega arith
+
 pub count_bound : (P : ℕ → Bool) (n : ℕ) → count P n ≤ n
 unfolding count
 count_bound P zero = zero-le
@@ -80,6 +85,16 @@ any_has P (suc n) e = go (cases_Bool (P n)) (any_has P n)
 
 pub any_none : (P : ℕ → Bool) (n : ℕ) → any P n ≡ false → (k : ℕ) → k < n → P k ≡ false
 any_none P n e k l = let f : P k ≡ true → any P n ≡ true = any_from P n k l in grind arith
+
+-- where fewer than n pass, here is one that does not
+pub one_fails : (P : ℕ → Bool) (n : ℕ) → count P n < n → (k : ℕ) × (k < n) × (P k ≡ false)
+one_fails P n few = by (cases_Bool (any (λ k. not (P k)) n))
+  where
+    by : (any (λ k. not (P k)) n ≡ true) ⊎ (any (λ k. not (P k)) n ≡ false) → (k : ℕ) × (k < n) × (P k ≡ false)
+    by (inl t) = let r = any_has (λ k. not (P k)) n t in (r.0, r.1, let f = r.2 in grind arith)
+    by (inr f) =
+        let all : count P n ≡ count (λ _. true) n = count_ext P (λ _. true) n (λ k l. let g = any_none (λ k. not (P k)) n f k l in grind arith) in
+        absurd (omega (arith, all, count_all n))
 
 pub none_any : (P : ℕ → Bool) (n : ℕ) → ((k : ℕ) → k < n → P k ≡ false) → any P n ≡ false
 unfolding any
