@@ -1,6 +1,7 @@
 -- The first of a list that passes a test. Assumes nothing.
 use Rattle.std.proofs.Common.{◌≡◌, Bool, true, false, cond, List, [], ◌∷◌, Some, None, Option, refl, ap, arith}
 use Rattle.std.specs.List.{All, Contains, find}
+use Rattle.std.proofs.lemmas.Bool.{both_ways}
 use Rattle.std.proofs.lemmas.List.Elements.{All-nil, All-cons, All-contains, Contains-append_left, Contains-append_right, Contains-push}
 
 module _ {X : Type 0} (P : X → Bool) where
@@ -20,6 +21,24 @@ module _ {X : Type 0} (P : X → Bool) where
       by true is e later = absurd cc
       by false is e later = All-cons (λ x. P x ≡ false) y more is (later e)
 
+  -- where none was found, none passes
+  never : (xs : List X) (x : X) → find P xs ≡ None → Contains xs x → P x ≡ true → ⊥
+  never xs x none has is = let n = All-contains (λ z. P z ≡ false) xs x (none_found xs none) has in grind arith
+
+  pub find_only : (xs : List X) (x : X) → Contains xs x → P x ≡ true → ((y : X) → Contains xs y → P y ≡ true → y ≡ x) → find P xs ≡ Some x
+  find_only xs x has is one = by (find P xs) refl
+    where
+      by : (o : Option X) → find P xs ≡ o → o ≡ Some x
+      by None e = absurd (never xs x e has is)
+      by (Some y) e = let r = found xs y e in ap Some (one y r.0 r.1)
+
+  pub find_none : (xs : List X) → ((y : X) → Contains xs y → P y ≡ false) → find P xs ≡ None
+  find_none xs none = by (find P xs) refl
+    where
+      by : (o : Option X) → find P xs ≡ o → o ≡ None
+      by None e = refl
+      by (Some y) e = let r = found xs y e in absurd (both_ways (P y) (none y r.0) r.1)
+
   -- where all that pass are the same, it does not depend on the order
   pub same_found : (xs ys : List X)
       → ((x : X) → (Contains xs x → Contains ys x) × (Contains ys x → Contains xs x))
@@ -27,9 +46,6 @@ module _ {X : Type 0} (P : X → Bool) where
       → find P xs ≡ find P ys
   same_found xs ys same one = by (find P xs) (find P ys) refl refl
     where
-      never : (zs : List X) (x : X) → find P zs ≡ None → Contains zs x → P x ≡ true → ⊥
-      never zs x none has is = let n = All-contains (λ z. P z ≡ false) zs x (none_found zs none) has in grind arith
-
       by : (o p : Option X) → find P xs ≡ o → find P ys ≡ p → o ≡ p
       by None None e d = refl
       by None (Some y) e d = let r = found ys y d in absurd (never xs y e ((same y).1 r.0) r.1)

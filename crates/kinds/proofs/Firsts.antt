@@ -1,8 +1,24 @@
 -- The foremost of some values, by the laws of an order. Assumes nothing.
-use Rattle.std.proofs.Common.{◌≡◌, ℕ, zero, suc, ◌<◌, Bool, true, false, not, ◌⊎◌, Some, None, Option, sym, refl, ap, ◌∙◌, ⊎_elim, not-suc-le-zero, below_more, arith, MatchOption}
+use Rattle.std.proofs.Common.{◌≡◌, ℕ, zero, suc, ◌<◌, Bool, true, false, cond, not, ◌⊎◌, Some, None, Option, sym, refl, ap, ◌∙◌, ⊎_elim, not-suc-le-zero, below_more, arith, MatchOption}
 use Rattle.std.proofs.lemmas.Option.{MatchOption-at_some}
 use Rattle.std.proofs.lemmas.Bool.{and_parts, both_ways}
 use Rattle.kinds.specs.Orders.{before, sooner, foremost, Among, LeadsAll, ForemostLeads, ForemostOnly}
+
+-- the foremost of values that are the same where they pass
+pub foremost_ext : {V : Type 0} (leads : V → V → Bool) (P Q : ℕ → Bool) (v w : ℕ → V) (n : ℕ)
+    → ((k : ℕ) → k < n → P k ≡ Q k) → ((k : ℕ) → k < n → P k ≡ true → v k ≡ w k) → foremost leads P v n ≡ foremost leads Q w n
+unfolding foremost
+foremost_ext leads P Q v w zero e f = refl
+foremost_ext leads P Q v w (suc n) e f =
+    let ih = foremost_ext leads P Q v w n (λ k l. e k (omega arith)) (λ k l. f k (omega arith)) in
+    by (P n) (Q n) (e n (omega arith)) (f n (omega arith)) ih
+  where
+    by : (s t : Bool) → s ≡ t → (s ≡ true → v n ≡ w n) → foremost leads P v n ≡ foremost leads Q w n
+        → cond s (Some (sooner leads (foremost leads P v n) (v n))) (foremost leads P v n) ≡ cond t (Some (sooner leads (foremost leads Q w n) (w n))) (foremost leads Q w n)
+    by true true i g ih = let x = g refl in λ j. Some (sooner leads (ih j) (x j))
+    by true false i g ih = absurd (grind arith)
+    by false true i g ih = absurd (grind arith)
+    by false false i g ih = ih
 
 module _ {V : Type 0} (leads : V → V → Bool) (total : (x y : V) → (leads x y ≡ true) ⊎ (leads y x ≡ true))
     (transitive : (x y z : V) → leads x y ≡ true → leads y z ≡ true → leads x z ≡ true) where

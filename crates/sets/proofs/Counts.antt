@@ -1,5 +1,5 @@
 -- How many numbers below n pass a test (`count`), and whether one does (`any`). Assumes nothing.
-use Rattle.std.proofs.Common.{◌≡◌, ℕ, zero, suc, ◌<◌, ◌≤◌, Bool, true, false, not, ◌&&◌, ◌||◌, eqb, ◌⊎◌, sym, refl, ◌∙◌, inl, inr, suc-le-suc, zero-le, le_of_suc-le-suc, not-suc-le-zero, le_antisymm, arith}
+use Rattle.std.proofs.Common.{◌≡◌, ℕ, zero, suc, ◌<◌, ◌≤◌, Bool, true, false, not, ◌&&◌, ◌||◌, eqb, ltb, ◌⊎◌, sym, refl, ◌∙◌, inl, inr, suc-le-suc, zero-le, le_of_suc-le-suc, not-suc-le-zero, le_antisymm, arith}
 use Rattle.std.proofs.lemmas.Bool.{cases_Bool}
 use Rattle.std.proofs.lemmas.Bool.Decides.{nat_tests}
 use Rattle.sets.specs.Tests.{count, any}
@@ -53,6 +53,16 @@ count_same P Q (suc n) w e k l =
     at : (k : ℕ) → k < suc n → ((j : ℕ) → j < n → P (suc j) ≡ Q (suc j)) → P 0 ≡ Q 0 → P k ≡ Q k
     at zero l above first = first
     at (suc k) l above first = above k (le_of_suc-le-suc l)
+
+-- those below n, counted further on
+pub count_within : (P : ℕ → Bool) (n m : ℕ) → n ≤ m → count (λ k. ltb k n && P k) m ≡ count P n
+unfolding count
+count_within P zero m l = count_ext (λ k. ltb k 0 && P k) (λ _. false) m (λ k _. grind (arith, nat_tests)) ∙ count_none m
+count_within P (suc n) zero l = absurd (not-suc-le-zero l)
+count_within P (suc n) (suc m) l =
+    let ih = count_within (next P) n m (le_of_suc-le-suc l) in
+    let rest = count_ext (λ k. ltb (suc k) (suc n) && P (suc k)) (λ k. ltb k n && P (suc k)) m (λ k _. grind (arith, nat_tests)) in
+    grind (arith, nat_tests)
 
 -- one number more that passes
 pub count_more : (P : ℕ → Bool) (n q : ℕ) → q < n → P q ≡ false → count (λ k. P k || eqb k q) n ≡ suc (count P n)
