@@ -1,4 +1,5 @@
 pub mod Falls
 pub mod Histories
 pub mod Values
+pub mod Boxes
 pub mod Theorems
