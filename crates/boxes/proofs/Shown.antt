@@ -39,11 +39,11 @@ is_some-plus None true x = refl
 is_some-plus None false x = refl
 is_some-plus (Some y) t x = refl
 
-is_some-alone : {X : Type 0} (t : Bool) (x : X) → is_some (cond t (Some x) None) ≡ t
+pub is_some-alone : {X : Type 0} (t : Bool) (x : X) → is_some (cond t (Some x) None) ≡ t
 is_some-alone true x = refl
 is_some-alone false x = refl
 
-tells-alone : {K : Type 0} (t : Bool) (f : Frame K) (i : ℕ) → rule.tells (cond t (Some f) None) i ≡ (t && member f.missing i)
+pub tells-alone : {K : Type 0} (t : Bool) (f : Frame K) (i : ℕ) → rule.tells (cond t (Some f) None) i ≡ (t && member f.missing i)
 tells-alone true f i = refl
 tells-alone false f i = refl
 

@@ -3,3 +3,4 @@ pub mod Clean
 pub mod Waste
 pub mod Estimates
 pub mod Agree
+pub mod Follows

@@ -46,6 +46,9 @@ module _ {K : Type 0} (h : History K) where
     pub lacking_few : (r : ℕ) → lacking r ≤ h.t
     lacking_few r = omega (arith, count_le (found_missing h.falls h.n r) (λ q. is_some (h.falls q)) h.n (λ q _. missing_fell r q), allowed.few)
 
+    pub known_few : (p r : ℕ) → closes h.falls p (suc r) ≡ true → count (known h p (suc r)) h.n ≤ h.t
+    known_few p r c = omega (arith, known_count p r c, lacking_few r)
+
     lacking_none : lacking 0 ≡ 0
     lacking_none = count_ext (found_missing h.falls h.n 0) (λ _. false) h.n (λ q _. none_missing h.falls allowed.dated h.n q) ∙ count_none h.n
 

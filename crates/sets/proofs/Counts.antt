@@ -132,3 +132,7 @@ any-or P Q (suc n) = let ih = any-or P Q n in grind arith
 pub any_point : (q n : ℕ) (t : Bool) → q < n → any (λ k. eqb k q && t) n ≡ t
 any_point q n true l = any_from (λ k. eqb k q && true) n q l (grind (arith, nat_tests))
 any_point q n false l = none_any (λ k. eqb k q && false) n (λ k _. grind arith)
+
+pub any-and : (t : Bool) (P : ℕ → Bool) (n : ℕ) → any (λ k. t && P k) n ≡ (t && any P n)
+any-and true P n = any_ext (λ k. true && P k) P n (λ k _. grind arith)
+any-and false P n = none_any (λ k. false && P k) n (λ k _. grind arith)

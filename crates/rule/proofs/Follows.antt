@@ -1,0 +1,107 @@
+-- A box that hears what the rule sends holds what the rule says. Assumes nothing.
+use Rattle.std.proofs.Common.{◌≡◌, ℕ, zero, suc, ◌+◌, ◌-◌, ◌^◌, ◌<◌, ◌≤◌, min, Bool, true, false, cond, not, ◌&&◌, ◌||◌, eqb, leb, ltb, ◌⊎◌, List, [], ◌∷◌, is_some, Some, None, Ok, Option, unwrap_or, sym, refl, ap, ◌∙◌, inl, inr, ⊎_elim, add-one, lt_of_lt_of_le, arith}
+use Rattle.std.proofs.lemmas.Bool.{both_ways, cases_Bool, eqb-true, eq-eqb}
+use Rattle.std.proofs.lemmas.Bool.Decides.{nat_tests}
+use Rattle.numbers.specs.declared.refusal.Refusal.TheVariants as refusal
+use Rattle.numbers.specs.Refusals.{unless}
+use Rattle.sets.specs.declared.set.BoxSet.{BoxSet}
+use Rattle.sets.specs.Companies.{company}
+use Rattle.sets.specs.Tests.{any, count}
+use Rattle.sets.specs.Masks.{member, mask_of, set_of}
+use Rattle.sets.proofs.Bits.{bit-mask_of, mask_below, set_ext}
+use Rattle.sets.proofs.Counts.{any_ext, any-and, none_any, count_ext, count_le, count_within}
+use Rattle.kinds.specs.Orders.{foremost}
+use Rattle.kinds.proofs.Firsts.{foremost_ext}
+use Rattle.frames.specs.declared.frame.Frame.{Frame}
+use Rattle.boxes.specs.declared.states.Held.{Held}
+use Rattle.boxes.specs.Boxes.{new_box, frame_of}
+use Rattle.boxes.specs.Rounds.{bad_set, best_horizon, closed_with, Outcome, rests, rings}
+use Rattle.boxes.specs.Rule.{Heard, admits, estimate_in, first_heard, not_heard, told_missing, ruled}
+use Rattle.boxes.proofs.Shown.{is_some-alone, tells-alone}
+use Rattle.rule.specs.Falls.{closes, hears, found_missing}
+use Rattle.rule.specs.Histories.{History, Allowed}
+use Rattle.rule.specs.Values.{missed, known, estimate}
+use Rattle.rule.specs.Values as rule
+use Rattle.rule.specs.Boxes.{held_after, sends_after, hears_after, outcome_of}
+use Rattle.rule.specs.Theorems.{BoxBegins, BoxAdmits, BoxFollows}
+use Rattle.rule.proofs.Rounds.{closed_before, closing_heard, heard_closed, hears_itself, missing_open}
+use Rattle.rule.proofs.Clean.{missed_missing, known_missing}
+use Rattle.rule.proofs.Waste.{lacking_few, known_few}
+
+module _ {K : Type 0} (h : History K) (leads : K → K → Bool) (allowed : Allowed h) where
+  few : h.n ≤ 32
+  few = let s = allowed.size in grind (arith, nat_tests)
+
+  -- the missing set of p after round r
+  abbrev missing_set : ℕ → ℕ → BoxSet
+  missing_set p r = set_of (λ q. ltb q h.n && missed h p r q)
+
+  missing_is : (p r i : ℕ) → member (missing_set p r) i ≡ (ltb i h.n && missed h p r i)
+  missing_is p r i = let m = bit-mask_of (λ q. ltb q h.n && missed h p r q) 32 i in let f = few in grind (arith, nat_tests)
+
+  -- ---- a new box
+
+  begins : (p : ℕ) → p < h.n → new_box (record { 0 = p }) h.n h.t (h.proposals p) ≡ Ok (held_after h leads p 0)
+  unfolding held_after missed rule.best_horizon estimate
+  begins p l =
+      let of : leb h.n p ≡ false = grind (arith, nat_tests) in
+      let none : set_of (λ _. false) ≡ set_of (λ q. ltb q h.n && false) = set_ext (λ _. false) (λ q. ltb q h.n && false) (λ i _. grind arith) in
+      (λ j. unless
+      ((not (allowed.size j), refusal.Company) ∷ (of j, refusal.Stranger) ∷ [])
+      (record { number = record { 0 = p }; n = h.n; t = h.t; closed = 0; estimate = h.proposals p; missing = none j; horizon = record { 0 = h.t + 1 } }))
+
+  -- ---- hearing
+
+  -- who closed a round is missed by none that did
+  not_missed : (p q r : ℕ) → closes h.falls q r ≡ true → missed h p r q ≡ false
+  unfolding missed
+  not_missed p q zero c = refl
+  not_missed p q (suc r) c = ap not (closing_heard h.falls p (suc r) q c)
+
+  module _ (p q r : ℕ) (l : p < h.n) (m : q < h.n) (c : closes h.falls p (suc r) ≡ true) (heard : hears h.falls p (suc r) q ≡ true) where
+    good_set : bad_set (held_after h leads p r) (sends_after h leads q r) ≡ false
+    unfolding bad_set held_after
+    good_set =
+        let beyond = none_any (λ i. member (missing_set q r) i && leb h.n i) 32 (λ i _. let n = missing_is q r i in grind (arith, nat_tests)) in
+        let own = missing_is q r q in
+        let his = missing_is q r p in
+        let a = not_missed q q r (heard_closed h.falls p r q c heard) in
+        let b = not_missed q p r (closed_before h.falls p r c) in
+        grind arith
+
+    pub is_admitted : (q ≡ p → ⊥) → admits (held_after h leads p r) (sends_after h leads q r) ≡ true
+    unfolding admits held_after
+    is_admitted other =
+        let good : bad_set (held_after h leads p r) (sends_after h leads q r) ≡ false = good_set in
+        let his = missing_is p r q in
+        let a = not_missed p q r (heard_closed h.falls p r q c heard) in
+        grind (arith, nat_tests)
+
+  -- ---- closing
+
+  module _ (p r : ℕ) where
+    abbrev t? : ℕ → Bool
+    t? q = ltb q h.n && hears h.falls p (suc r) q
+
+    not_heard_is : not_heard (held_after h leads p r) (hears_after h leads p r) ≡ missing_set p (suc r)
+    unfolding held_after hears_after missed
+    not_heard_is = set_ext _ _ (λ i _. let s = is_some-alone (t? i) (sends_after h leads i r) in grind arith)
+
+    -- the boxes that p knows missing by round r + 1, as a set
+    abbrev known_set : BoxSet
+    known_set = set_of (λ i. ltb i h.n && known h p (suc r) i)
+
+    known_is : (i : ℕ) → member known_set i ≡ (ltb i h.n && known h p (suc r) i)
+    known_is i = let m = bit-mask_of (λ q. ltb q h.n && known h p (suc r) q) 32 i in let f = few in grind (arith, nat_tests)
+
+    told_is : told_missing (held_after h leads p r) (hears_after h leads p r) ≡ known_set
+    unfolding held_after hears_after known
+    told_is = set_ext _ _ (λ i _.
+        any_ext _ (λ q. ltb i h.n && (hears h.falls p (suc r) q && missed h q r i)) h.n (λ q l.
+        let s = tells-alone (t? q) (sends_after h leads q r) i in
+        let m = missing_is q r i in
+        grind (arith, nat_tests))
+        ∙ any-and (ltb i h.n) (λ q. hears h.falls p (suc r) q && missed h q r i) h.n)
+
+    known_counted : count (member known_set) 32 ≡ count (known h p (suc r)) h.n
+    known_counted = count_ext (member known_set) (λ i. ltb i h.n && known h p (suc r) i) 32 (λ i _. known_is i) ∙ count_within (known h p (suc r)) h.n 32 few
