@@ -15,7 +15,8 @@ use Rattle.kinds.proofs.Firsts.{foremost_ext}
 use Rattle.frames.specs.declared.frame.Frame.{Frame}
 use Rattle.boxes.specs.declared.states.Held.{Held}
 use Rattle.boxes.specs.Boxes.{new_box, frame_of}
-use Rattle.boxes.specs.Rounds.{bad_set, best_horizon, closed_with, Outcome, rests, rings}
+use Rattle.boxes.specs.Rounds as box
+use Rattle.boxes.specs.Rounds.{bad_set, closed_with, Outcome, rests, rings}
 use Rattle.boxes.specs.Rule.{Heard, admits, estimate_in, first_heard, not_heard, told_missing, ruled}
 use Rattle.boxes.proofs.Shown.{is_some-alone, tells-alone}
 use Rattle.rule.specs.Falls.{closes, hears, found_missing}
@@ -105,3 +106,57 @@ module _ {K : Type 0} (h : History K) (leads : K → K → Bool) (allowed : Allo
 
     known_counted : count (member known_set) 32 ≡ count (known h p (suc r)) h.n
     known_counted = count_ext (member known_set) (λ i. ltb i h.n && known h p (suc r) i) 32 (λ i _. known_is i) ∙ count_within (known h p (suc r)) h.n 32 few
+
+    estimate_in-when : (t : Bool) (d : K) (f : Frame K) → t ≡ true → estimate_in d (cond t (Some f) None) ≡ f.estimate
+    estimate_in-when true d f e = refl
+    estimate_in-when false d f e = absurd (grind arith)
+
+    first_is : unwrap_or (first_heard (held_after h leads p r) (hears_after h leads p r) leads) (held_after h leads p r).estimate ≡ estimate h leads p (suc r)
+    unfolding held_after hears_after estimate
+    first_is = ap (λ o. unwrap_or o (estimate h leads p r)) (foremost_ext leads
+        (λ q. is_some (hears_after h leads p r q)) (hears h.falls p (suc r)) _ (λ q. estimate h leads q r) h.n
+        (λ q l. let s = is_some-alone (t? q) (sends_after h leads q r) in grind (arith, nat_tests))
+        (λ q _ e. estimate_in-when (t? q) _ (sends_after h leads q r) (sym (is_some-alone (t? q) (sends_after h leads q r)) ∙ e)))
+
+    module _ (l : p < h.n) (c : closes h.falls p (suc r) ≡ true) where
+      -- p misses no more than may fall
+      missed_few : count (member (missing_set p (suc r))) 32 ≤ h.t
+      missed_few =
+          let a = count_ext (member (missing_set p (suc r))) (λ i. ltb i h.n && missed h p (suc r) i) 32 (λ i _. missing_is p (suc r) i) in
+          let b = count_within (missed h p (suc r)) h.n 32 few in
+          let d = count_le (missed h p (suc r)) (found_missing h.falls h.n (suc r)) h.n (λ q _. missed_missing h p (suc r) q l c) in
+          omega (arith, lacking_few h allowed (suc r))
+
+      -- who is known missing closed no round since, and is not heard
+      known_missed : (q : ℕ) → known h p (suc r) q ≡ true → missed h p (suc r) q ≡ true
+      unfolding missed
+      known_missed q k =
+          let o = missing_open h.falls h.n r q (known_missing h p r q c k) in
+          let a = heard_closed h.falls p r q c in
+          grind arith
+
+      tally : (ltb h.t (count (member (missing_set p (suc r))) 32) || any (λ i. member known_set i && not (member (missing_set p (suc r)) i)) 32) ≡ false
+      tally =
+          let a = missed_few in
+          let b = none_any (λ i. member known_set i && not (member (missing_set p (suc r)) i)) 32 (λ i _.
+              let x = known_is i in let y = missing_is p (suc r) i in let z = known_missed i in grind arith) in
+          grind (arith, nat_tests)
+
+      best_is : box.best_horizon (held_after h leads p r) known_set ≡ rule.best_horizon h p (suc r)
+      unfolding held_after rule.best_horizon
+      best_is = λ j. min (rule.best_horizon h p r) (add-one r j + h.t - known_counted j)
+
+      abbrev end : ℕ → ℕ → Outcome K
+      end best round = cond (eqb best round) (rings (record { 0 = round }) (estimate h leads p (suc r)))
+          (rests (record {
+          number = record { 0 = p }; n = h.n; t = h.t; closed = round; estimate = estimate h leads p (suc r);
+          missing = missing_set p (suc r); horizon = record { 0 = best }
+      }))
+
+      closes_so : closed_with (held_after h leads p r) (missing_set p (suc r)) known_set (estimate h leads p (suc r)) ≡ Ok (outcome_of h leads p (suc r))
+      unfolding closed_with outcome_of held_after
+      closes_so = λ j. unless ((tally j, refusal.Tally) ∷ []) (end (best_is j) (add-one r j))
+
+      pub follows : ruled leads (held_after h leads p r) (hears_after h leads p r) ≡ Ok (outcome_of h leads p (suc r))
+      unfolding ruled
+      follows = (λ j. closed_with (held_after h leads p r) (not_heard_is j) (told_is j) (first_is j)) ∙ closes_so
