@@ -14,6 +14,7 @@ use Rattle.kinds.specs.Orders.{foremost}
 use Rattle.kinds.proofs.Firsts.{foremost_ext}
 use Rattle.frames.specs.declared.frame.Frame.{Frame}
 use Rattle.boxes.specs.declared.states.Held.{Held}
+use Rattle.boxes.specs.declared.states.Resting.{Resting}
 use Rattle.boxes.specs.Boxes.{new_box, frame_of}
 use Rattle.boxes.specs.Rounds as box
 use Rattle.boxes.specs.Rounds.{bad_set, closed_with, Outcome, rests, rings}
@@ -24,10 +25,10 @@ use Rattle.rule.specs.Histories.{History, Allowed}
 use Rattle.rule.specs.Values.{missed, known, estimate}
 use Rattle.rule.specs.Values as rule
 use Rattle.rule.specs.Boxes.{held_after, sends_after, hears_after, outcome_of}
-use Rattle.rule.specs.Theorems.{BoxBegins, BoxAdmits, BoxFollows}
+use Rattle.rule.specs.Theorems.{QuietBefore}
 use Rattle.rule.proofs.Rounds.{closed_before, closing_heard, heard_closed, hears_itself, missing_open}
 use Rattle.rule.proofs.Clean.{missed_missing, known_missing}
-use Rattle.rule.proofs.Waste.{lacking_few, known_few}
+use Rattle.rule.proofs.Waste.{best_down, best_late, lacking_few}
 
 module _ {K : Type 0} (h : History K) (leads : K → K → Bool) (allowed : Allowed h) where
   few : h.n ≤ 32
@@ -40,9 +41,17 @@ module _ {K : Type 0} (h : History K) (leads : K → K → Bool) (allowed : Allo
   missing_is : (p r i : ℕ) → member (missing_set p r) i ≡ (ltb i h.n && missed h p r i)
   missing_is p r i = let m = bit-mask_of (λ q. ltb q h.n && missed h p r q) 32 i in let f = few in grind (arith, nat_tests)
 
+  -- no more than may fall
+  missed_few : (p r : ℕ) → p < h.n → closes h.falls p r ≡ true → count (member (missing_set p r)) 32 ≤ h.t
+  missed_few p r l c =
+      let a = count_ext (member (missing_set p r)) (λ i. ltb i h.n && missed h p r i) 32 (λ i _. missing_is p r i) in
+      let b = count_within (missed h p r) h.n 32 few in
+      let d = count_le (missed h p r) (found_missing h.falls h.n r) h.n (λ q _. missed_missing h p r q l c) in
+      omega (arith, lacking_few h allowed r)
+
   -- ---- a new box
 
-  begins : (p : ℕ) → p < h.n → new_box (record { 0 = p }) h.n h.t (h.proposals p) ≡ Ok (held_after h leads p 0)
+  pub begins : (p : ℕ) → p < h.n → new_box (record { 0 = p }) h.n h.t (h.proposals p) ≡ Ok (held_after h leads p 0)
   unfolding held_after missed rule.best_horizon estimate
   begins p l =
       let of : leb h.n p ≡ false = grind (arith, nat_tests) in
@@ -58,6 +67,31 @@ module _ {K : Type 0} (h : History K) (leads : K → K → Bool) (allowed : Allo
   unfolding missed
   not_missed p q zero c = refl
   not_missed p q (suc r) c = ap not (closing_heard h.falls p (suc r) q c)
+
+  -- ---- a box at rest
+
+  pub rests_there : (p r : ℕ) → p < h.n → closes h.falls p r ≡ true → QuietBefore h (suc r) → (b : Resting K) × (b.held ≡ held_after h leads p r)
+  unfolding held_after rule.best_horizon
+  rests_there p r l c quiet =
+      let size = allowed.size in
+      let late = best_late h allowed p r l c (λ q k m s. quiet q k m (omega arith)) in
+      let silent = quiet p r l (omega arith) c in
+      let down = best_down h p 0 r (omega arith) in
+      let own = missing_is p r p in
+      let heard = not_missed p p r c in
+      (record {
+        held = held_after h leads p r;
+        several = grind (arith, nat_tests);
+        few = few;
+        fallible = grind (arith, nat_tests);
+        survived = grind (arith, nat_tests);
+        placed = l;
+        within = (mask_below h.n (missing_set p r).mask).1 (λ i m. let e = missing_is p r i in grind (arith, nat_tests));
+        present = grind arith;
+        sparse = missed_few p r l c;
+        ahead = grind (arith, nat_tests);
+        due = omega arith;
+      }, refl)
 
   module _ (p q r : ℕ) (l : p < h.n) (m : q < h.n) (c : closes h.falls p (suc r) ≡ true) (heard : hears h.falls p (suc r) q ≡ true) where
     good_set : bad_set (held_after h leads p r) (sends_after h leads q r) ≡ false
@@ -119,14 +153,6 @@ module _ {K : Type 0} (h : History K) (leads : K → K → Bool) (allowed : Allo
         (λ q _ e. estimate_in-when (t? q) _ (sends_after h leads q r) (sym (is_some-alone (t? q) (sends_after h leads q r)) ∙ e)))
 
     module _ (l : p < h.n) (c : closes h.falls p (suc r) ≡ true) where
-      -- p misses no more than may fall
-      missed_few : count (member (missing_set p (suc r))) 32 ≤ h.t
-      missed_few =
-          let a = count_ext (member (missing_set p (suc r))) (λ i. ltb i h.n && missed h p (suc r) i) 32 (λ i _. missing_is p (suc r) i) in
-          let b = count_within (missed h p (suc r)) h.n 32 few in
-          let d = count_le (missed h p (suc r)) (found_missing h.falls h.n (suc r)) h.n (λ q _. missed_missing h p (suc r) q l c) in
-          omega (arith, lacking_few h allowed (suc r))
-
       -- who is known missing closed no round since, and is not heard
       known_missed : (q : ℕ) → known h p (suc r) q ≡ true → missed h p (suc r) q ≡ true
       unfolding missed
@@ -137,7 +163,7 @@ module _ {K : Type 0} (h : History K) (leads : K → K → Bool) (allowed : Allo
 
       tally : (ltb h.t (count (member (missing_set p (suc r))) 32) || any (λ i. member known_set i && not (member (missing_set p (suc r)) i)) 32) ≡ false
       tally =
-          let a = missed_few in
+          let a = missed_few p (suc r) l c in
           let b = none_any (λ i. member known_set i && not (member (missing_set p (suc r)) i)) 32 (λ i _.
               let x = known_is i in let y = missing_is p (suc r) i in let z = known_missed i in grind arith) in
           grind (arith, nat_tests)

@@ -38,16 +38,13 @@ module _ {K : Type 0} (h : History K) where
   missing_fell r q e = open_fell (h.falls q) r (let o = missing_open h.falls h.n r q e in grind arith)
 
   -- the best horizon only comes nearer
-  best_down : (p a b : ℕ) → a ≤ b → best_horizon h p b ≤ best_horizon h p a
+  pub best_down : (p a b : ℕ) → a ≤ b → best_horizon h p b ≤ best_horizon h p a
   unfolding best_horizon
   best_down p a b l = le_ind (λ (m : ℕ). best_horizon h p m ≤ best_horizon h p a) (omega arith) (λ m k e. omega arith) b l
 
   module _ (allowed : Allowed h) where
     pub lacking_few : (r : ℕ) → lacking r ≤ h.t
     lacking_few r = omega (arith, count_le (found_missing h.falls h.n r) (λ q. is_some (h.falls q)) h.n (λ q _. missing_fell r q), allowed.few)
-
-    pub known_few : (p r : ℕ) → closes h.falls p (suc r) ≡ true → count (known h p (suc r)) h.n ≤ h.t
-    known_few p r c = omega (arith, known_count p r c, lacking_few r)
 
     lacking_none : lacking 0 ≡ 0
     lacking_none = count_ext (found_missing h.falls h.n 0) (λ _. false) h.n (λ q _. none_missing h.falls allowed.dated h.n q) ∙ count_none h.n
