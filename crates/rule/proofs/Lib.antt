@@ -4,3 +4,4 @@ pub mod Waste
 pub mod Estimates
 pub mod Agree
 pub mod Follows
+pub mod Told

@@ -2,5 +2,7 @@
 #![tactic(auto)]
 
 mod falls;
+mod theorems;
 
 pub use falls::Fall;
+pub use theorems::rule_stands;

@@ -1,0 +1,22 @@
+// What holds of every run by the rule, on the contract of a function; what the function returns is of no meaning.
+ghost use Rattle.std.specs.Prelude.{◌≡◌};
+ghost use Rattle.rule.specs.Histories.{History};
+ghost use Rattle.rule.specs.Theorems.{Agreement, BoxBegins, BoxRests, BoxAdmits, BoxFollows, BoxFollowsTold};
+
+use boxes::boxes_stand;
+use kinds::Kind;
+
+// All boxes that ring do so in one round, which is t + 1 - D, and on one proposal, for every history. And a box of the crate `boxes` follows
+// the rule: told the frames of the boxes that it hears, it closes the round to the rule's values.
+pub fn rule_stands<K: Kind>() -> u8
+    ensures zero { result ≡ 0 }
+    ensures agree { (h : History K) → Agreement h K.leads }
+    ensures begins { (h : History K) → BoxBegins h K.leads }
+    ensures rests { (h : History K) → BoxRests h K.leads }
+    ensures admits { (h : History K) → BoxAdmits h K.leads }
+    ensures follows { (h : History K) → BoxFollows h K.leads }
+    ensures told { (h : History K) → BoxFollowsTold h K.leads K.SIZE K.named }
+{
+    let _ = boxes_stand::<K>();
+    0
+}
