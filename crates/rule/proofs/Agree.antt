@@ -9,7 +9,7 @@ use Rattle.kinds.specs.Orders.{before}
 use Rattle.rule.specs.declared.falls.Fall.{Fall}
 use Rattle.rule.specs.Falls.{fell_before, fell_in, closes, waste}
 use Rattle.rule.specs.Histories.{History, Allowed, ringing_round}
-use Rattle.rule.specs.Values.{best_horizon, rings, estimate}
+use Rattle.rule.specs.Values.{smallest, best_horizon, rings, estimate}
 use Rattle.rule.specs.Theorems.{QuietBefore, RingsLast, RingsInTheRound, NeverPassed, RingsOnOne, RingsOnProposal, RingsOnFirst, Agreement}
 use Rattle.rule.proofs.Waste.{Peak, best_late, waste_few, waste_last, rings_when, rings_then, peak, peak_clean, clean_by, lacking_few}
 use Rattle.rule.proofs.Estimates.{Agree, agree_clean, agree_from, estimate_proposed, estimate_leads}
@@ -33,7 +33,7 @@ module _ {K : Type 0} (h : History K) (allowed : Allowed h) where
   survives p r e = ap not (standing_closes (h.falls p) r e)
 
   rings_due : (r p : ℕ) → p < h.n → closes h.falls p r ≡ true → QuietBefore h r → rings h p r ≡ true → Due r
-  unfolding best_horizon
+  unfolding best_horizon smallest
   rings_due zero p l c quiet e = absurd (grind (arith, nat_tests))
   rings_due (suc k) p l c quiet e = rings_when h allowed p k l c (best_late h allowed p (suc k) l c quiet) (unfold best_horizon in eqb-true _ _ e)
 

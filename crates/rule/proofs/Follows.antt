@@ -52,7 +52,7 @@ module _ {K : Type 0} (h : History K) (leads : K → K → Bool) (allowed : Allo
   -- ---- a new box
 
   pub begins : (p : ℕ) → p < h.n → new_box (record { 0 = p }) h.n h.t (h.proposals p) ≡ Ok (held_after h leads p 0)
-  unfolding held_after missed rule.best_horizon estimate
+  unfolding held_after missed rule.best_horizon rule.smallest estimate
   begins p l =
       let of : leb h.n p ≡ false = grind (arith, nat_tests) in
       let none : set_of (λ _. false) ≡ set_of (λ q. ltb q h.n && false) = set_ext (λ _. false) (λ q. ltb q h.n && false) (λ i _. grind arith) in
@@ -71,7 +71,7 @@ module _ {K : Type 0} (h : History K) (leads : K → K → Bool) (allowed : Allo
   -- ---- a box at rest
 
   pub rests_there : (p r : ℕ) → p < h.n → closes h.falls p r ≡ true → QuietBefore h (suc r) → (b : Resting K) × (b.held ≡ held_after h leads p r)
-  unfolding held_after rule.best_horizon
+  unfolding held_after rule.best_horizon rule.smallest
   rests_there p r l c quiet =
       let size = allowed.size in
       let late = best_late h allowed p r l c (λ q k m s. quiet q k m (omega arith)) in
@@ -169,7 +169,7 @@ module _ {K : Type 0} (h : History K) (leads : K → K → Bool) (allowed : Allo
           grind (arith, nat_tests)
 
       best_is : box.best_horizon (held_after h leads p r) known_set ≡ rule.best_horizon h p (suc r)
-      unfolding held_after rule.best_horizon
+      unfolding held_after rule.best_horizon rule.smallest
       best_is = λ j. min (rule.best_horizon h p r) (add-one r j + h.t - known_counted j)
 
       abbrev end : ℕ → ℕ → Outcome K

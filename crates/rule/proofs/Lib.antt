@@ -5,3 +5,4 @@ pub mod Estimates
 pub mod Agree
 pub mod Follows
 pub mod Told
+pub mod Worked

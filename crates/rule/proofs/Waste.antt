@@ -8,7 +8,7 @@ use Rattle.sets.proofs.Counts.{count_le, count_none, count_ext, count_same}
 use Rattle.rule.specs.declared.falls.Fall.{Fall}
 use Rattle.rule.specs.Falls.{fell_before, fell_in, closes, found_missing, missing_count, waste}
 use Rattle.rule.specs.Histories.{History, Allowed}
-use Rattle.rule.specs.Values.{known, horizon, best_horizon, rings}
+use Rattle.rule.specs.Values.{known, smallest, best_horizon, rings}
 use Rattle.rule.specs.Theorems.{QuietBefore}
 use Rattle.rule.proofs.Rounds.{closed_before, closed_from, missing_open, missing_stays, none_missing}
 use Rattle.rule.proofs.Clean.{Clean, known_missing, clean_known}
@@ -39,7 +39,7 @@ module _ {K : Type 0} (h : History K) where
 
   -- the best horizon only comes nearer
   pub best_down : (p a b : ℕ) → a ≤ b → best_horizon h p b ≤ best_horizon h p a
-  unfolding best_horizon
+  unfolding best_horizon smallest
   best_down p a b l = le_ind (λ (m : ℕ). best_horizon h p m ≤ best_horizon h p a) (omega arith) (λ m k e. omega arith) b l
 
   module _ (allowed : Allowed h) where
@@ -54,7 +54,7 @@ module _ {K : Type 0} (h : History K) where
 
     -- it is never below what the waste of the rounds before allows
     best_waste : (p r : ℕ) → closes h.falls p (suc r) ≡ true → h.t + 1 ≤ best_horizon h p (suc r) + waste h.falls h.n r
-    unfolding best_horizon waste
+    unfolding best_horizon smallest waste
     best_waste p zero c = let a = known_count p 0 c in let b = lacking_none in omega arith
     best_waste p (suc r) c =
         let ih = best_waste p r (closed_before h.falls p (suc r) c) in
@@ -64,7 +64,7 @@ module _ {K : Type 0} (h : History K) where
 
     -- nor, where nobody rang before, below the round
     pub best_late : (p r : ℕ) → p < h.n → closes h.falls p r ≡ true → QuietBefore h r → r ≤ best_horizon h p r
-    unfolding best_horizon
+    unfolding best_horizon smallest
     best_late p zero l c quiet = omega arith
     best_late p (suc r) l c quiet =
         let d = closed_before h.falls p r c in
@@ -76,7 +76,7 @@ module _ {K : Type 0} (h : History K) where
 
     -- after a clean round it is at most t + 1 less the excess there
     best_clean : (p r k : ℕ) → p < h.n → closes h.falls p k ≡ true → suc r ≤ k → lacking (suc r) ≤ lacking r → best_horizon h p k + lacking r ≤ h.t + suc r
-    unfolding best_horizon
+    unfolding best_horizon smallest
     best_clean p r k l c m e =
         let d = closed_from h.falls p (suc r) k m c in
         let a = clean_count p r l d (clean_by r e) in

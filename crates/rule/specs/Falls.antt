@@ -1,5 +1,6 @@
 -- Which boxes fall and when, and so who closes a round, who hears whom in it, and who is found missing. Assumes nothing.
-use Rattle.std.specs.Prelude.{ℕ, zero, suc, ◌-◌, max, Bool, false, not, ◌&&◌, ◌||◌, Some, None, Option, ◌==◌, nat_lt}
+use Rattle.std.specs.Prelude.{ℕ, zero, suc, ◌-◌, max, Bool, false, cond, not, ◌&&◌, ◌||◌, Some, None, Option, ◌==◌, nat_lt}
+use Rattle.sets.specs.declared.set.BoxSet.{BoxSet}
 use Rattle.sets.specs.Tests.{any, count}
 use Rattle.sets.specs.Masks.{member}
 use Rattle.rule.specs.declared.falls.Fall.{Fall}
@@ -7,6 +8,13 @@ use Rattle.rule.specs.declared.falls.Fall.{Fall}
 -- of each box its fall, or none
 abbrev pub Falls : Type 0
 Falls = ℕ → Option Fall
+
+-- nobody falls; and box p falls besides, in round r, with s for its lost set
+abbrev pub no_falls : Falls
+no_falls q = None
+
+abbrev pub with_fall : ℕ → ℕ → BoxSet → Falls → Falls
+with_fall r p s falls q = cond (q == p) (Some (record { round = record { 0 = r }; lost = s })) (falls q)
 
 -- it fell before round r
 abbrev pub fell_before : Option Fall → ℕ → Bool
@@ -23,14 +31,22 @@ abbrev pub fell_unheard : Option Fall → ℕ → ℕ → Bool
 fell_unheard None r p = false
 fell_unheard (Some f) r p = f.round.0 == r && member f.lost p
 
-module _ (falls : Falls) where
-  -- box p closes round r: it fell neither before the round nor in it
-  unfoldable pub closes : ℕ → ℕ → Bool
-  closes p r = not (fell_before (falls p) r || fell_in (falls p) r)
+-- it fell neither before round r nor in it: the box closes the round
+abbrev pub lasts : Option Fall → ℕ → Bool
+lasts fall r = not (fell_before fall r || fell_in fall r)
 
-  -- box p, which closes round r, hears box q in it: q is p itself, or q fell neither before the round nor in it with p in its lost set
+-- it fell neither before round r, nor in it with box p in its lost set: what it sends in the round reaches p
+abbrev pub reaches : Option Fall → ℕ → ℕ → Bool
+reaches fall r p = not (fell_before fall r || fell_unheard fall r p)
+
+module _ (falls : Falls) where
+  -- box p closes round r
+  unfoldable pub closes : ℕ → ℕ → Bool
+  closes p r = lasts (falls p) r
+
+  -- box p, which closes round r, hears box q in it: q is p itself, or what q sends reaches p
   unfoldable pub hears : ℕ → ℕ → ℕ → Bool
-  hears p r q = q == p || not (fell_before (falls q) r || fell_unheard (falls q) r p)
+  hears p r q = q == p || reaches (falls q) r p
 
   -- box q of a company of n is found missing in round r: it fell before the round, or in it unheard by a box that closes the round
   unfoldable pub found_missing : ℕ → ℕ → ℕ → Bool

@@ -3,3 +3,4 @@ pub mod Histories
 pub mod Values
 pub mod Boxes
 pub mod Theorems
+pub mod Examples

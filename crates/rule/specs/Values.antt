@@ -5,6 +5,11 @@ use Rattle.kinds.specs.Orders.{foremost}
 use Rattle.rule.specs.Falls.{hears}
 use Rattle.rule.specs.Histories.{History}
 
+-- the smallest of a number and those that f gives the rounds 1 to r
+unfoldable pub smallest : ℕ → (ℕ → ℕ) → ℕ → ℕ
+smallest first f zero = first
+smallest first f (suc r) = min (smallest first f r) (f (suc r))
+
 module _ {K : Type 0} (h : History K) where
   -- the missing set of box p after round r: the boxes that it did not hear in the round, and none at the start
   unfoldable pub missed : ℕ → ℕ → ℕ → Bool
@@ -23,8 +28,7 @@ module _ {K : Type 0} (h : History K) where
 
   -- its best horizon: the smallest of t + 1 and its horizons in the rounds 1 to r
   unfoldable pub best_horizon : ℕ → ℕ → ℕ
-  best_horizon p zero = h.t + 1
-  best_horizon p (suc r) = min (best_horizon p r) (horizon p (suc r))
+  best_horizon p r = smallest (h.t + 1) (horizon p) r
 
   -- it rings in round r: that is its best horizon
   abbrev pub rings : ℕ → ℕ → Bool

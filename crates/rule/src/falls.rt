@@ -1,9 +1,33 @@
-// Boxes that fall, as a history tells of them.
-use sets::{BoxSet, RoundNumber};
+// Boxes that fall, and so who closes a round and whom each box hears.
+ghost use Rattle.std.specs.Prelude.{◌≡◌, ◌||◌, ◌==◌};
+ghost use Rattle.rule.specs.Falls.{lasts, reaches};
+
+use sets::{BoxNumber, BoxSet, RoundNumber};
 
 // The fall of a box: the round in which it fell, and the boxes that did not hear what it sent in that round.
 #[derive(Clone, Copy, Debug, PartialEq, Eq)]
 pub struct Fall {
     pub round: RoundNumber,
     pub lost: BoxSet,
+}
+
+// Whether a box closes the round, by its fall if it fell.
+pub fn closes(fall: Option<Fall>, round: RoundNumber) -> bool
+    ensures { result ≡ lasts fall round.0 }
+{
+    match fall {
+        None => true,
+        Some(fall) => fall.round > round,
+    }
+}
+
+// Whether a box that closes the round hears the sender in it, by the sender's fall if it fell.
+pub fn hears(hearer: BoxNumber, round: RoundNumber, sender: BoxNumber, fall: Option<Fall>) -> bool
+    ensures { result ≡ (sender.0 == hearer.0 || reaches fall round.0 hearer.0) }
+{
+    sender == hearer
+        || match fall {
+            None => true,
+            Some(fall) => fall.round > round || fall.round == round && !fall.lost.contains(hearer),
+        }
 }

@@ -4,5 +4,5 @@
 mod falls;
 mod theorems;
 
-pub use falls::Fall;
-pub use theorems::rule_stands;
+pub use falls::{Fall, closes, hears};
+pub use theorems::{examples_stand, rule_stands};

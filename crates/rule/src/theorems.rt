@@ -1,6 +1,7 @@
 // What holds of every run by the rule, on the contract of a function; what the function returns is of no meaning.
 ghost use Rattle.std.specs.Prelude.{◌≡◌};
 ghost use Rattle.rule.specs.Histories.{History};
+ghost use Rattle.rule.specs.Examples.{Examples};
 ghost use Rattle.rule.specs.Theorems.{Agreement, BoxBegins, BoxRests, BoxAdmits, BoxFollows, BoxFollowsTold};
 
 use boxes::boxes_stand;
@@ -18,5 +19,14 @@ pub fn rule_stands<K: Kind>() -> u8
     ensures told { (h : History K) → BoxFollowsTold h K.leads K.SIZE K.named }
 {
     let _ = boxes_stand::<K>();
+    0
+}
+
+// Worked runs by the rule, and runs that break three rules that are nearly right, with the examples of numbers and of a frame, as one fact.
+pub fn examples_stand() -> u8
+    ensures zero { result ≡ 0 }
+    ensures examples { Examples }
+{
+    let _ = frames::examples_stand();
     0
 }

@@ -1,0 +1,6 @@
+use Rattle.std.proofs.Common.{refl}
+use Rattle.rule.proofs.Worked.{runs, nearly_right}
+use Rattle.rule.proofs.theorems.examples_stand.Goals as goal
+
+pub returns : goal.returns
+returns c = record { zero = refl; examples = (c.examples_stand.ensures.examples, runs, nearly_right) }
