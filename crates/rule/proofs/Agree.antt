@@ -1,17 +1,14 @@
 -- All that ring do so at once and on one proposal. Assumes nothing.
-use Rattle.std.proofs.Common.{◌≡◌, ℕ, zero, suc, ◌+◌, ◌-◌, ◌<◌, ◌≤◌, Bool, true, false, not, ◌&&◌, ◌||◌, eqb, ◌⊎◌, is_some, Some, None, Option, sym, refl, ap, ◌∙◌, ⊎_elim, arith}
-use Rattle.std.proofs.lemmas.Bool.{both_ways, eqb-true, eq-eqb, cases_lt}
+use Rattle.std.proofs.Common.{◌≡◌, ℕ, zero, suc, ◌+◌, ◌<◌, ◌≤◌, Bool, true, false, not, ◌||◌, ◌⊎◌, is_some, Some, None, Option, refl, ap, ◌∙◌, arith}
+use Rattle.std.proofs.lemmas.Bool.{both_ways, eqb-true, eq-eqb}
 use Rattle.std.proofs.lemmas.Bool.Decides.{nat_tests}
-use Rattle.sets.specs.Tests.{count}
-use Rattle.sets.specs.Companies.{company}
 use Rattle.sets.proofs.Counts.{one_fails}
-use Rattle.kinds.specs.Orders.{before}
 use Rattle.rule.specs.declared.falls.Fall.{Fall}
 use Rattle.rule.specs.Falls.{fell_before, fell_in, closes, waste}
 use Rattle.rule.specs.Histories.{History, Allowed, ringing_round}
 use Rattle.rule.specs.Values.{smallest, best_horizon, rings, estimate}
-use Rattle.rule.specs.Theorems.{QuietBefore, RingsLast, RingsInTheRound, NeverPassed, RingsOnOne, RingsOnProposal, RingsOnFirst, Agreement}
-use Rattle.rule.proofs.Waste.{Peak, best_late, waste_few, waste_last, rings_when, rings_then, peak, peak_clean, clean_by, lacking_few}
+use Rattle.rule.specs.Theorems.{QuietBefore, RingsLast, RingsInTheRound, NeverPassed, RingsOnOne, RingsOnProposal, RingsOnFirst}
+use Rattle.rule.proofs.Waste.{best_late, waste_few, waste_last, rings_when, rings_then, peak, peak_clean, clean_by, lacking_few}
 use Rattle.rule.proofs.Estimates.{Agree, agree_clean, agree_from, estimate_proposed, estimate_leads}
 
 -- who has not fallen closes every round

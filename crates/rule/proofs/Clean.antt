@@ -1,14 +1,13 @@
 -- What boxes know to be missing, and that in a round in which nobody more is found missing all know the same. Assumes nothing.
-use Rattle.std.proofs.Common.{◌≡◌, ℕ, zero, suc, ◌<◌, Bool, true, false, not, ◌&&◌, ◌||◌, ◌⊎◌, refl, ap, ◌∙◌, inl, inr, arith}
+use Rattle.std.proofs.Common.{◌≡◌, ℕ, zero, suc, ◌<◌, true, false, not, ◌&&◌, ◌||◌, ◌⊎◌, ap, inl, inr, arith}
 use Rattle.std.proofs.lemmas.Bool.{both_ways, cases_Bool}
-use Rattle.std.proofs.lemmas.Bool.Decides.{nat_tests}
 use Rattle.sets.specs.Tests.{any}
 use Rattle.sets.specs.Theorems.{Within}
-use Rattle.sets.proofs.Counts.{any_from, any_has, none_any}
+use Rattle.sets.proofs.Counts.{any_from, any_has}
 use Rattle.rule.specs.Falls.{fell_before, fell_unheard, closes, hears, found_missing}
-use Rattle.rule.specs.Histories.{History, Allowed}
+use Rattle.rule.specs.Histories.{History}
 use Rattle.rule.specs.Values.{missed, known}
-use Rattle.rule.proofs.Rounds.{closed_before, fell_closes, heard_closed, closing_heard, fell_not_heard, none_missing, missing_open, not_heard_missing}
+use Rattle.rule.proofs.Rounds.{closed_before, heard_closed, fell_not_heard, none_missing, missing_open, not_heard_missing}
 
 module _ {K : Type 0} (h : History K) where
   -- a box that closes a round misses only who is found missing in it
@@ -63,8 +62,10 @@ module _ {K : Type 0} (h : History K) where
           let o = missing_open h.falls h.n (suc s) x in
           let a = clean_hears (suc s) k p x l m c in
           missed_known p (suc s) x q m (grind arith) (not_heard_missed x s q d t)
+
       some : (x : ℕ) × (x < h.n) × ((fell_unheard (h.falls q) (suc s) x && closes h.falls x (suc s)) ≡ true) → known h p (suc (suc s)) q ≡ true
       some (x, m, t) = told x m (grind arith) (grind arith)
+
       by : (fell_before (h.falls q) (suc s) ≡ true) ⊎ (fell_before (h.falls q) (suc s) ≡ false)
           → (any (λ x. fell_unheard (h.falls q) (suc s) x && closes h.falls x (suc s)) h.n ≡ true
           → (x : ℕ) × (x < h.n) × ((fell_unheard (h.falls q) (suc s) x && closes h.falls x (suc s)) ≡ true))

@@ -1,10 +1,10 @@
 -- The estimates: whose they are, and when they are the same. Assumes nothing.
-use Rattle.std.proofs.Common.{◌≡◌, ℕ, zero, suc, ◌<◌, ◌≤◌, Bool, true, false, not, ◌&&◌, ◌⊎◌, Some, None, Option, MatchOption, unwrap_or, sym, refl, ap, ◌∙◌, ⊎_elim, arith}
+use Rattle.std.proofs.Common.{◌≡◌, ℕ, zero, suc, ◌<◌, ◌≤◌, Bool, true, false, ◌⊎◌, Some, None, Option, MatchOption, unwrap_or, sym, refl, ap, ◌∙◌, ⊎_elim}
 use Rattle.std.proofs.Math.Decide.{le_ind}
 use Rattle.std.proofs.lemmas.Bool.{both_ways}
-use Rattle.kinds.specs.Orders.{before, foremost, Among, LeadsAll}
+use Rattle.kinds.specs.Orders.{foremost, Among, LeadsAll}
 use Rattle.kinds.proofs.Firsts.{foremost_leads}
-use Rattle.rule.specs.Falls.{closes, hears, found_missing}
+use Rattle.rule.specs.Falls.{closes, hears}
 use Rattle.rule.specs.Histories.{History}
 use Rattle.rule.specs.Values.{estimate}
 use Rattle.rule.proofs.Rounds.{closed_before, heard_closed, hears_itself}

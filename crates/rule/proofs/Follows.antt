@@ -1,24 +1,20 @@
 -- A box that hears what the rule sends holds what the rule says. Assumes nothing.
-use Rattle.std.proofs.Common.{◌≡◌, ℕ, zero, suc, ◌+◌, ◌-◌, ◌^◌, ◌<◌, ◌≤◌, min, Bool, true, false, cond, not, ◌&&◌, ◌||◌, eqb, leb, ltb, ◌⊎◌, List, [], ◌∷◌, is_some, Some, None, Ok, Option, unwrap_or, sym, refl, ap, ◌∙◌, inl, inr, ⊎_elim, add-one, lt_of_lt_of_le, arith}
-use Rattle.std.proofs.lemmas.Bool.{both_ways, cases_Bool, eqb-true, eq-eqb}
+use Rattle.std.proofs.Common.{◌≡◌, ℕ, zero, suc, ◌+◌, ◌-◌, ◌<◌, ◌≤◌, min, Bool, true, false, cond, not, ◌&&◌, ◌||◌, eqb, leb, ltb, [], ◌∷◌, is_some, Some, None, Ok, unwrap_or, sym, refl, ap, ◌∙◌, add-one, arith}
 use Rattle.std.proofs.lemmas.Bool.Decides.{nat_tests}
 use Rattle.numbers.specs.declared.refusal.Refusal.TheVariants as refusal
 use Rattle.numbers.specs.Refusals.{unless}
 use Rattle.sets.specs.declared.set.BoxSet.{BoxSet}
-use Rattle.sets.specs.Companies.{company}
 use Rattle.sets.specs.Tests.{any, count}
-use Rattle.sets.specs.Masks.{member, mask_of, set_of}
+use Rattle.sets.specs.Masks.{member, set_of}
 use Rattle.sets.proofs.Bits.{bit-mask_of, mask_below, set_ext}
 use Rattle.sets.proofs.Counts.{any_ext, any-and, none_any, count_ext, count_le, count_within}
-use Rattle.kinds.specs.Orders.{foremost}
 use Rattle.kinds.proofs.Firsts.{foremost_ext}
 use Rattle.frames.specs.declared.frame.Frame.{Frame}
-use Rattle.boxes.specs.declared.states.Held.{Held}
 use Rattle.boxes.specs.declared.states.Resting.{Resting}
-use Rattle.boxes.specs.Boxes.{new_box, frame_of}
+use Rattle.boxes.specs.Boxes.{new_box}
 use Rattle.boxes.specs.Rounds as box
 use Rattle.boxes.specs.Rounds.{bad_set, closed_with, Outcome, rests, rings}
-use Rattle.boxes.specs.Rule.{Heard, admits, estimate_in, first_heard, not_heard, told_missing, ruled}
+use Rattle.boxes.specs.Rule.{admits, estimate_in, first_heard, not_heard, told_missing, ruled}
 use Rattle.boxes.proofs.Shown.{is_some-alone, tells-alone}
 use Rattle.rule.specs.Falls.{closes, hears, found_missing}
 use Rattle.rule.specs.Histories.{History, Allowed}
@@ -26,7 +22,7 @@ use Rattle.rule.specs.Values.{missed, known, estimate}
 use Rattle.rule.specs.Values as rule
 use Rattle.rule.specs.Boxes.{held_after, sends_after, hears_after, outcome_of}
 use Rattle.rule.specs.Theorems.{QuietBefore}
-use Rattle.rule.proofs.Rounds.{closed_before, closing_heard, heard_closed, hears_itself, missing_open}
+use Rattle.rule.proofs.Rounds.{closed_before, closing_heard, heard_closed, missing_open}
 use Rattle.rule.proofs.Clean.{missed_missing, known_missing}
 use Rattle.rule.proofs.Waste.{best_down, best_late, lacking_few}
 
@@ -78,20 +74,22 @@ module _ {K : Type 0} (h : History K) (leads : K → K → Bool) (allowed : Allo
       let silent = quiet p r l (omega arith) c in
       let down = best_down h p 0 r (omega arith) in
       let own = missing_is p r p in
-      let heard = not_missed p p r c in
-      (record {
-        held = held_after h leads p r;
-        several = grind (arith, nat_tests);
-        few = few;
-        fallible = grind (arith, nat_tests);
-        survived = grind (arith, nat_tests);
-        placed = l;
-        within = (mask_below h.n (missing_set p r).mask).1 (λ i m. let e = missing_is p r i in grind (arith, nat_tests));
-        present = grind arith;
-        sparse = missed_few p r l c;
-        ahead = grind (arith, nat_tests);
-        due = omega arith;
-      }, refl)
+      let heard = not_missed p p r c in (
+        record {
+          held = held_after h leads p r;
+          several = grind (arith, nat_tests);
+          few = few;
+          fallible = grind (arith, nat_tests);
+          survived = grind (arith, nat_tests);
+          placed = l;
+          within = (mask_below h.n (missing_set p r).mask).1 (λ i m. let e = missing_is p r i in grind (arith, nat_tests));
+          present = grind arith;
+          sparse = missed_few p r l c;
+          ahead = grind (arith, nat_tests);
+          due = omega arith;
+        },
+        refl,
+      )
 
   module _ (p q r : ℕ) (l : p < h.n) (m : q < h.n) (c : closes h.falls p (suc r) ≡ true) (heard : hears h.falls p (suc r) q ≡ true) where
     good_set : bad_set (held_after h leads p r) (sends_after h leads q r) ≡ false
@@ -165,7 +163,7 @@ module _ {K : Type 0} (h : History K) (leads : K → K → Bool) (allowed : Allo
       tally =
           let a = missed_few p (suc r) l c in
           let b = none_any (λ i. member known_set i && not (member (missing_set p (suc r)) i)) 32 (λ i _.
-              let x = known_is i in let y = missing_is p (suc r) i in let z = known_missed i in grind arith) in
+          let x = known_is i in let y = missing_is p (suc r) i in let z = known_missed i in grind arith) in
           grind (arith, nat_tests)
 
       best_is : box.best_horizon (held_after h leads p r) known_set ≡ rule.best_horizon h p (suc r)
@@ -175,9 +173,14 @@ module _ {K : Type 0} (h : History K) (leads : K → K → Bool) (allowed : Allo
       abbrev end : ℕ → ℕ → Outcome K
       end best round = cond (eqb best round) (rings (record { 0 = round }) (estimate h leads p (suc r)))
           (rests (record {
-          number = record { 0 = p }; n = h.n; t = h.t; closed = round; estimate = estimate h leads p (suc r);
-          missing = missing_set p (suc r); horizon = record { 0 = best }
-      }))
+            number = record { 0 = p };
+            n = h.n;
+            t = h.t;
+            closed = round;
+            estimate = estimate h leads p (suc r);
+            missing = missing_set p (suc r);
+            horizon = record { 0 = best };
+          }))
 
       closes_so : closed_with (held_after h leads p r) (missing_set p (suc r)) known_set (estimate h leads p (suc r)) ≡ Ok (outcome_of h leads p (suc r))
       unfolding closed_with outcome_of held_after

@@ -1,5 +1,5 @@
 -- Who closes a round, who hears whom in it, who is found missing. Assumes nothing.
-use Rattle.std.proofs.Common.{◌≡◌, ℕ, zero, suc, ◌<◌, ◌≤◌, Bool, true, false, not, ◌&&◌, ◌||◌, eqb, ltb, Some, None, Option, refl, ap, ◌∙◌, arith}
+use Rattle.std.proofs.Common.{◌≡◌, ℕ, suc, ◌<◌, ◌≤◌, true, false, not, ◌&&◌, ◌||◌, eqb, Some, None, Option, refl, arith}
 use Rattle.std.proofs.Math.Decide.{le_ind}
 use Rattle.std.proofs.lemmas.Bool.Decides.{nat_tests}
 use Rattle.sets.specs.Tests.{any}
@@ -93,6 +93,7 @@ module _ (falls : Falls) where
       where
         some : (p : ℕ) × (p < n) × ((fell_unheard (falls q) r p && closes falls p r) ≡ true) → closes falls q r ≡ false
         some (p, l, t) = unheard_open q r p (grind arith)
+
         by : (any (λ p. fell_unheard (falls q) r p && closes falls p r) n ≡ true
             → (p : ℕ) × (p < n) × ((fell_unheard (falls q) r p && closes falls p r) ≡ true)) → closes falls q r ≡ false
         by has =

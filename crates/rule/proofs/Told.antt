@@ -1,14 +1,13 @@
 -- A box that is told the frames of those it hears, in any order, has heard what the rule says. Assumes nothing.
-use Rattle.std.proofs.Common.{◌≡◌, ℕ, suc, ◌<◌, Bool, true, false, cond, not, ◌&&◌, ◌||◌, eqb, ltb, ◌⊎◌, List, Contains, Some, None, Ok, Option, sym, refl, ap, ◌∙◌, inl, inr, ⊎_elim, arith}
-use Rattle.std.proofs.lemmas.Bool.{both_ways, cases_Bool, eqb-true, eq-eqb}
+use Rattle.std.proofs.Common.{◌≡◌, ℕ, suc, ◌<◌, Bool, true, false, cond, ◌&&◌, eqb, ltb, ◌⊎◌, List, Contains, Some, None, Ok, Option, sym, refl, ap, ◌∙◌, inl, inr, ⊎_elim, arith}
+use Rattle.std.proofs.lemmas.Bool.{both_ways, cases_Bool, eqb-true}
 use Rattle.std.proofs.lemmas.Bool.Decides.{nat_tests}
 use Rattle.std.specs.List.{find}
 use Rattle.frames.specs.declared.frame.Frame.{Frame}
 use Rattle.frames.specs.Faults.{map_fault}
-use Rattle.boxes.specs.declared.states.Held.{Held}
 use Rattle.boxes.specs.declared.states.Resting.{Resting}
-use Rattle.boxes.specs.Rounds.{Outcome, refused, open_notes, closing}
-use Rattle.boxes.specs.Rule.{Heard, admits, from_sender, heard_of, frames_in, notes_after, ruled}
+use Rattle.boxes.specs.Rounds.{refused, open_notes, closing}
+use Rattle.boxes.specs.Rule.{from_sender, heard_of, frames_in, notes_after, ruled}
 use Rattle.boxes.specs.Theorems.{ClosesByRule}
 use Rattle.boxes.proofs.Found.{find_only, find_none}
 use Rattle.rule.specs.Falls.{closes, hears}
@@ -66,6 +65,7 @@ module _ {K : Type 0} (h : History K) (leads : K → K → Bool) (allowed : Allo
             → find (from_sender (held_after h leads p r) q) came ≡ cond s (Some (sends_after h leads q r)) None
         found true e on = of_heard q on (λ same. let n = number_is in grind (arith, nat_tests))
         found false e off = of_none q off
+
         by : (eqb q (held_after h leads p r).number.0 ≡ true) ⊎ (eqb q (held_after h leads p r).number.0 ≡ false)
             → cond (eqb q (held_after h leads p r).number.0) (Some (sends_after h leads p r)) (find (from_sender (held_after h leads p r) q) came)
             ≡ cond (t? q) (Some (sends_after h leads q r)) None

@@ -1,5 +1,5 @@
 -- How many are missing, the horizons that come of it, and the waste. Assumes nothing.
-use Rattle.std.proofs.Common.{◌≡◌, ℕ, zero, suc, ◌+◌, ◌-◌, ◌<◌, ◌≤◌, max, min, Bool, true, false, ◌⊎◌, is_some, Some, None, Option, refl, ap, ◌∙◌, ◌||◌, inl, inr, ⊎_elim, arith}
+use Rattle.std.proofs.Common.{◌≡◌, ℕ, zero, suc, ◌+◌, ◌<◌, ◌≤◌, true, false, ◌⊎◌, is_some, Some, None, Option, refl, ap, ◌∙◌, ◌||◌, inl, inr, ⊎_elim, arith}
 use Rattle.std.proofs.Math.Decide.{le_ind}
 use Rattle.std.proofs.lemmas.Bool.{cases_lt}
 use Rattle.std.proofs.lemmas.Bool.Decides.{nat_tests}
@@ -8,7 +8,7 @@ use Rattle.sets.proofs.Counts.{count_le, count_none, count_ext, count_same}
 use Rattle.rule.specs.declared.falls.Fall.{Fall}
 use Rattle.rule.specs.Falls.{fell_before, fell_in, closes, found_missing, missing_count, waste}
 use Rattle.rule.specs.Histories.{History, Allowed}
-use Rattle.rule.specs.Values.{known, smallest, best_horizon, rings}
+use Rattle.rule.specs.Values.{known, smallest, best_horizon}
 use Rattle.rule.specs.Theorems.{QuietBefore}
 use Rattle.rule.proofs.Rounds.{closed_before, closed_from, missing_open, missing_stays, none_missing}
 use Rattle.rule.proofs.Clean.{Clean, known_missing, clean_known}
@@ -104,6 +104,7 @@ module _ {K : Type 0} (h : History K) where
         still : (q : Peak k) → lacking (suc k) < suc k + waste h.falls h.n k → (q.top ≡ k) ⊎ (lacking (suc q.top) ≤ lacking q.top) → lacking (suc q.top) ≤ lacking q.top
         still q b (inl e) = let f : lacking (suc q.top) ≡ lacking (suc k) = ap (λ r. lacking (suc r)) e in omega (arith, q.reached)
         still q b (inr d) = d
+
         by : Peak k → (lacking (suc k) < suc k + waste h.falls h.n k) ⊎ (suc k + waste h.falls h.n k ≤ lacking (suc k)) → Peak (suc k)
         by q (inl b) = record { top = q.top; under = omega (arith, q.under); reached = omega (arith, q.reached); next = inr (still q b q.next) }
         by q (inr b) = record { top = suc k; under = omega arith; reached = omega arith; next = inl refl }

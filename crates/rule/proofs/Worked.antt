@@ -1,5 +1,5 @@
 -- The worked runs, by computation. Assumes nothing.
-use Rattle.std.proofs.Common.{◌≡◌, refl}
+use Rattle.std.proofs.Common.{refl}
 use Rattle.sets.specs.Tests.{any, count}
 use Rattle.sets.specs.Masks.{bit, mask_of}
 use Rattle.kinds.specs.Orders.{foremost}

@@ -1,5 +1,5 @@
 -- Worked runs by the rule, and rules that are nearly right with a run that breaks each. Assumes nothing.
-use Rattle.std.specs.Prelude.{◌≡◌, ℕ, zero, suc, ◌+◌, ◌-◌, ◌≤◌, Bool, true, false, not, ◌&&◌, ◌||◌, List, [], ◌∷◌, slice_index_or, ◌==◌}
+use Rattle.std.specs.Prelude.{◌≡◌, ℕ, ◌+◌, ◌-◌, ◌≤◌, Bool, true, false, not, ◌&&◌, ◌||◌, [], ◌∷◌, slice_index_or, ◌==◌}
 use Rattle.std.proofs.Common.{lit≤}
 use Rattle.sets.specs.Tests.{any, count}
 use Rattle.sets.specs.Masks.{set_of}

@@ -1,5 +1,5 @@
 -- A history: all that the rule goes by. Assumes nothing.
-use Rattle.std.specs.Prelude.{◌≡◌, ℕ, ◌+◌, ◌-◌, ◌≤◌, Bool, true, false, is_some}
+use Rattle.std.specs.Prelude.{◌≡◌, ℕ, ◌+◌, ◌-◌, ◌≤◌, true, false, is_some}
 use Rattle.sets.specs.Companies.{company}
 use Rattle.sets.specs.Tests.{count}
 use Rattle.rule.specs.Falls.{Falls, fell_before, waste}

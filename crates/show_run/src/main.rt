@@ -1,0 +1,153 @@
+// A run of four boxes, with what the rule gives each of them in each round, and who rings. Box 2 loses power while it sends in round 1,
+// and box 0 does not hear it.
+#![tactic(auto)]
+
+use boxes::{Closed, Listening, Resting};
+use frames::LONGEST_FRAME;
+use kinds::Piece;
+use numbers::Refusal;
+use rule::{Fall, closes, hears};
+use sets::{BoxNumber, BoxSet, RoundNumber};
+use std::io;
+
+// The company: four boxes, of which two may fall.
+const N: u32 = 4;
+
+const T: u32 = 2;
+
+// A box of the company, while it is up and has not rung, and its fall if it falls.
+#[derive(Clone, Copy)]
+struct Seat {
+    held: Option<Resting<Piece>>,
+    fall: Option<Fall>,
+}
+
+fn seat_of(number: u32, piece: u16, fall: Option<Fall>) -> Result<Seat, Refusal> {
+    let held = Resting::new(BoxNumber(number), N, T, Piece::new(piece)?)?;
+    Ok(Seat {
+        held: Some(held),
+        fall,
+    })
+}
+
+fn company() -> Result<[Seat; 4], Refusal> {
+    let fall = Fall {
+        round: RoundNumber(1),
+        lost: BoxSet::only(BoxNumber(0)),
+    };
+    Ok([
+        seat_of(0, 30, None)?,
+        seat_of(1, 20, None)?,
+        seat_of(2, 10, Some(fall))?,
+        seat_of(3, 40, None)?,
+    ])
+}
+
+// What a box hears in a round.
+#[derive(Clone, Copy)]
+struct Ear {
+    listening: Listening<Piece>,
+    // The boxes that it has not heard, and those that it knows to be missing.
+    missing: BoxSet,
+    known: BoxSet,
+}
+
+// The sender composes its frame, and the listener hears it.
+fn tell(ear: &mut Listening<Piece>, sender: Resting<Piece>) -> Result<(), Refusal> {
+    let mut line = [0; LONGEST_FRAME];
+    let len = sender.compose(&mut line)?;
+    match ear.hear(&line[..len]) {
+        Ok(()) => Ok(()),
+        Err(fault) => Err(fault.refusal()),
+    }
+}
+
+// The box hears all that the rule lets it hear in the round.
+fn listen(hearer: Resting<Piece>, round: RoundNumber, seats: &[Seat; 4]) -> Result<Ear, Refusal> {
+    let mut listening = hearer.open();
+    let mut missing = BoxSet::all_below(N).difference(BoxSet::only(hearer.number()));
+    let mut known = hearer.missing();
+    for seat in seats {
+        if let Some(sender) = seat.held {
+            if sender.number() != hearer.number()
+                && hears(hearer.number(), round, sender.number(), seat.fall)
+            {
+                tell(&mut listening, sender)?;
+                missing = missing.difference(BoxSet::only(sender.number()));
+                known = known.union(sender.missing());
+            }
+        }
+    }
+    Ok(Ear {
+        listening,
+        missing,
+        known,
+    })
+}
+
+// A line of what the box holds after the round; what is left of it at rest, if it is.
+fn close(
+    rt: &impl Print,
+    hearer: Resting<Piece>,
+    round: RoundNumber,
+    ear: Ear,
+) -> io::Result<Option<Resting<Piece>>> {
+    let horizon = RoundNumber(round.0.saturating_add(T).saturating_sub(ear.known.count()));
+    let best = hearer.horizon().min(horizon);
+    let (estimate, left) = match ear.listening.close() {
+        Ok(Closed::Rests(b)) => (b.estimate(), Some(b)),
+        Ok(Closed::Rings { proposal, .. }) => (proposal, None),
+        Err((_, fault)) => {
+            println!(rt; "box {} refused {}", hearer.number(), fault.refusal())?;
+            return Ok(None);
+        }
+    };
+    println!(rt;
+        "box {}: estimate {estimate}, missing {}, horizon {horizon}, best horizon {best}{}",
+        hearer.number(),
+        ear.missing,
+        if left.is_some() { "" } else { ", rings" }
+    )?;
+    Ok(left)
+}
+
+// What becomes of a seat in the round.
+fn next(rt: &impl Print, seat: Seat, round: RoundNumber, seats: &[Seat; 4]) -> io::Result<Seat> {
+    let held = match seat.held {
+        Some(hearer) if closes(seat.fall, round) => match listen(hearer, round, seats) {
+            Ok(ear) => close(rt, hearer, round, ear)?,
+            Err(refusal) => {
+                println!(rt; "box {} refused {refusal}", hearer.number())?;
+                None
+            }
+        },
+        Some(hearer) => {
+            println!(rt; "box {} falls", hearer.number())?;
+            None
+        }
+        None => None,
+    };
+    Ok(Seat { held, ..seat })
+}
+
+fn play_round(rt: &impl Print, seats: [Seat; 4], round: RoundNumber) -> io::Result<[Seat; 4]> {
+    println!(rt; "round {round}")?;
+    let [first, second, third, fourth] = seats;
+    Ok([
+        next(rt, first, round, &seats)?,
+        next(rt, second, round, &seats)?,
+        next(rt, third, round, &seats)?,
+        next(rt, fourth, round, &seats)?,
+    ])
+}
+
+fn main(rt: HostRuntime) -> io::Result<()> {
+    let mut seats = match company() {
+        Ok(seats) => seats,
+        Err(refusal) => return println!(&rt; "refused {refusal}"),
+    };
+    for round in 1..=T + 1 {
+        seats = play_round(&rt, seats, RoundNumber(round))?;
+    }
+    Ok(())
+}
