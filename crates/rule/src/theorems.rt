@@ -27,6 +27,5 @@ pub fn examples_stand() -> u8
     ensures zero { result ≡ 0 }
     ensures examples { Examples }
 {
-    let _ = frames::examples_stand();
-    0
+    frames::examples_stand()
 }
