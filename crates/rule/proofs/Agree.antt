@@ -21,13 +21,19 @@ module _ {K : Type 0} (h : History K) (allowed : Allowed h) where
   abbrev Due : ℕ → Type 0
   Due r = r + waste h.falls h.n r ≡ h.t + 1
 
-  -- somebody closes each round
+  -- not all fall, so somebody closes every round
   survivor : (p : ℕ) × (p < h.n) × (is_some (h.falls p) ≡ false)
   survivor = one_fails (λ q. is_some (h.falls q)) h.n (let s = allowed.size in let f = allowed.few in grind (arith, nat_tests))
 
   survives : (p r : ℕ) → is_some (h.falls p) ≡ false → closes h.falls p r ≡ true
   unfolding closes
   survives p r e = ap not (standing_closes (h.falls p) r e)
+
+  pub remains : (p : ℕ) × (p < h.n) × ((r : ℕ) → closes h.falls p r ≡ true)
+  remains = by survivor
+    where
+      by : (p : ℕ) × (p < h.n) × (is_some (h.falls p) ≡ false) → (p : ℕ) × (p < h.n) × ((r : ℕ) → closes h.falls p r ≡ true)
+      by (p, l, e) = (p, l, λ r. survives p r e)
 
   rings_due : (r p : ℕ) → p < h.n → closes h.falls p r ≡ true → QuietBefore h r → rings h p r ≡ true → Due r
   unfolding best_horizon smallest
@@ -42,11 +48,11 @@ module _ {K : Type 0} (h : History K) (allowed : Allowed h) where
   not_passed : (r : ℕ) → QuietBefore h r → r + waste h.falls h.n r ≤ h.t + 1
   unfolding waste
   not_passed zero quiet = omega arith
-  not_passed (suc r) quiet = by survivor (not_passed r (λ q k m s. quiet q k m (omega arith)))
+  not_passed (suc r) quiet = by remains (not_passed r (λ q k m s. quiet q k m (omega arith)))
     where
-      by : (p : ℕ) × (p < h.n) × (is_some (h.falls p) ≡ false) → r + waste h.falls h.n r ≤ h.t + 1 → suc r + waste h.falls h.n (suc r) ≤ h.t + 1
-      by (p, l, e) ih =
-          let c = survives p r e in
+      by : (p : ℕ) × (p < h.n) × ((k : ℕ) → closes h.falls p k ≡ true) → r + waste h.falls h.n r ≤ h.t + 1 → suc r + waste h.falls h.n (suc r) ≤ h.t + 1
+      by (p, l, all) ih =
+          let c = all r in
           let due : Due r → rings h p r ≡ true = due_rings r p l c (λ q k m s. quiet q k m (omega arith)) in
           let q = quiet p r l (omega arith) c in
           let few = lacking_few h allowed (suc r) in

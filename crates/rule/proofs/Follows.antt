@@ -113,12 +113,12 @@ module _ {K : Type 0} (h : History K) (leads : K → K → Bool) (allowed : Allo
   -- ---- closing
 
   module _ (p r : ℕ) where
-    abbrev t? : ℕ → Bool
-    t? q = ltb q h.n && hears h.falls p (suc r) q
+    abbrev in_reach : ℕ → Bool
+    in_reach q = ltb q h.n && hears h.falls p (suc r) q
 
     not_heard_is : not_heard (held_after h leads p r) (hears_after h leads p r) ≡ missing_set p (suc r)
     unfolding held_after hears_after missed
-    not_heard_is = set_ext _ _ (λ i _. let s = is_some-alone (t? i) (sends_after h leads i r) in grind arith)
+    not_heard_is = set_ext _ _ (λ i _. let s = is_some-alone (in_reach i) (sends_after h leads i r) in grind arith)
 
     -- the boxes that p knows missing by round r + 1, as a set
     abbrev known_set : BoxSet
@@ -131,7 +131,7 @@ module _ {K : Type 0} (h : History K) (leads : K → K → Bool) (allowed : Allo
     unfolding held_after hears_after known
     told_is = set_ext _ _ (λ i _.
         any_ext _ (λ q. ltb i h.n && (hears h.falls p (suc r) q && missed h q r i)) h.n (λ q l.
-        let s = tells-alone (t? q) (sends_after h leads q r) i in
+        let s = tells-alone (in_reach q) (sends_after h leads q r) i in
         let m = missing_is q r i in
         grind (arith, nat_tests))
         ∙ any-and (ltb i h.n) (λ q. hears h.falls p (suc r) q && missed h q r i) h.n)
@@ -147,8 +147,8 @@ module _ {K : Type 0} (h : History K) (leads : K → K → Bool) (allowed : Allo
     unfolding held_after hears_after estimate
     first_is = ap (λ o. unwrap_or o (estimate h leads p r)) (foremost_ext leads
         (λ q. is_some (hears_after h leads p r q)) (hears h.falls p (suc r)) _ (λ q. estimate h leads q r) h.n
-        (λ q l. let s = is_some-alone (t? q) (sends_after h leads q r) in grind (arith, nat_tests))
-        (λ q _ e. estimate_in-when (t? q) _ (sends_after h leads q r) (sym (is_some-alone (t? q) (sends_after h leads q r)) ∙ e)))
+        (λ q l. let s = is_some-alone (in_reach q) (sends_after h leads q r) in grind (arith, nat_tests))
+        (λ q _ e. estimate_in-when (in_reach q) _ (sends_after h leads q r) (sym (is_some-alone (in_reach q) (sends_after h leads q r)) ∙ e)))
 
     module _ (l : p < h.n) (c : closes h.falls p (suc r) ≡ true) where
       -- who is known missing closed no round since, and is not heard

@@ -27,28 +27,28 @@ module _ {K : Type 0} (h : History K) (leads : K → K → Bool) (allowed : Allo
 
   module _ (came : List (Frame K)) (are : AreHeard h leads p r came) where
     -- box p hears box q of the company
-    abbrev t? : ℕ → Bool
-    t? q = ltb q h.n && hears h.falls p (suc r) q
+    abbrev in_reach : ℕ → Bool
+    in_reach q = ltb q h.n && hears h.falls p (suc r) q
 
     -- a frame that came from q is what q sends, and p hears q
-    came_from : (q : ℕ) (f : Frame K) → Contains came f → from_sender (held_after h leads p r) q f ≡ true → (f ≡ sends_after h leads q r) × (t? q ≡ true)
+    came_from : (q : ℕ) (f : Frame K) → Contains came f → from_sender (held_after h leads p r) q f ≡ true → (f ≡ sends_after h leads q r) × (in_reach q ≡ true)
     came_from q f has is = by (are.1 f has)
       where
-        by : (x : ℕ) × (x < h.n) × (hears h.falls p (suc r) x ≡ true) × (f ≡ sends_after h leads x r) → (f ≡ sends_after h leads q r) × (t? q ≡ true)
+        by : (x : ℕ) × (x < h.n) × (hears h.falls p (suc r) x ≡ true) × (f ≡ sends_after h leads x r) → (f ≡ sends_after h leads q r) × (in_reach q ≡ true)
         by (x, m, e, at) =
             let s : f.sender.0 ≡ x = ap (λ g. g.sender.0) at ∙ sender_is x in
             let same : x ≡ q = grind (arith, nat_tests) in
-            (at ∙ ap (λ y. sends_after h leads y r) same, ap t? (sym same) ∙ (grind (arith, nat_tests)))
+            (at ∙ ap (λ y. sends_after h leads y r) same, ap in_reach (sym same) ∙ (grind (arith, nat_tests)))
 
     -- of a box not heard nothing came
-    of_none : (q : ℕ) → t? q ≡ false → find (from_sender (held_after h leads p r) q) came ≡ None
+    of_none : (q : ℕ) → in_reach q ≡ false → find (from_sender (held_after h leads p r) q) came ≡ None
     of_none q off = find_none (from_sender (held_after h leads p r) q) came (λ f has. by f has (cases_Bool (from_sender (held_after h leads p r) q f)))
       where
         by : (f : Frame K) → Contains came f → (from_sender (held_after h leads p r) q f ≡ true) ⊎ (from_sender (held_after h leads p r) q f ≡ false) → from_sender (held_after h leads p r) q f ≡ false
-        by f has (inl is) = absurd (both_ways (t? q) off (came_from q f has is).1)
+        by f has (inl is) = absurd (both_ways (in_reach q) off (came_from q f has is).1)
         by f has (inr is) = is
 
-    of_heard : (q : ℕ) → t? q ≡ true → (q ≡ p → ⊥) → find (from_sender (held_after h leads p r) q) came ≡ Some (sends_after h leads q r)
+    of_heard : (q : ℕ) → in_reach q ≡ true → (q ≡ p → ⊥) → find (from_sender (held_after h leads p r) q) came ≡ Some (sends_after h leads q r)
     of_heard q on other =
         let m : q < h.n = grind (arith, nat_tests) in
         let e : hears h.falls p (suc r) q ≡ true = grind arith in
@@ -61,19 +61,19 @@ module _ {K : Type 0} (h : History K) (leads : K → K → Bool) (allowed : Allo
     unfolding heard_of hears_after
     heard_at q = by (cases_Bool (eqb q (held_after h leads p r).number.0))
       where
-        found : (s : Bool) → eqb q (held_after h leads p r).number.0 ≡ false → t? q ≡ s
+        found : (s : Bool) → eqb q (held_after h leads p r).number.0 ≡ false → in_reach q ≡ s
             → find (from_sender (held_after h leads p r) q) came ≡ cond s (Some (sends_after h leads q r)) None
         found true e on = of_heard q on (λ same. let n = number_is in grind (arith, nat_tests))
         found false e off = of_none q off
 
         by : (eqb q (held_after h leads p r).number.0 ≡ true) ⊎ (eqb q (held_after h leads p r).number.0 ≡ false)
             → cond (eqb q (held_after h leads p r).number.0) (Some (sends_after h leads p r)) (find (from_sender (held_after h leads p r) q) came)
-            ≡ cond (t? q) (Some (sends_after h leads q r)) None
+            ≡ cond (in_reach q) (Some (sends_after h leads q r)) None
         by (inl e) =
             let same : q ≡ p = eqb-true q _ e ∙ number_is in
-            let heard : true ≡ t? q = sym (ap t? same ∙ (let i = hears_itself h.falls p (suc r) in grind (arith, nat_tests))) in
+            let heard : true ≡ in_reach q = sym (ap in_reach same ∙ (let i = hears_itself h.falls p (suc r) in grind (arith, nat_tests))) in
             ap (λ s. cond s (Some (sends_after h leads p r)) (find (from_sender (held_after h leads p r) q) came)) e ∙ (λ j. cond (heard j) (Some (sends_after h leads (sym same j) r)) None)
-        by (inr e) = ap (λ s. cond s (Some (sends_after h leads p r)) (find (from_sender (held_after h leads p r) q) came)) e ∙ found (t? q) e refl
+        by (inr e) = ap (λ s. cond s (Some (sends_after h leads p r)) (find (from_sender (held_after h leads p r) q) came)) e ∙ found (in_reach q) e refl
 
     heard_is : heard_of (held_after h leads p r) came ≡ hears_after h leads p r
     heard_is = λ j q. heard_at q j

@@ -27,6 +27,10 @@ module _ {K : Type 0} (h : History K) where
   abbrev pub NeverPassed : Type 0
   NeverPassed = h.closed ≤ ringing_round h
 
+  -- some box of the company closes every round: not all may fall
+  abbrev pub SomeRemains : Type 0
+  SomeRemains = Allowed h → (p : ℕ) × (p < h.n) × ((r : ℕ) → closes h.falls p r ≡ true)
+
   module _ (leads : K → K → Bool) where
     -- all that ring have one estimate
     abbrev pub RingsOnOne : Type 0

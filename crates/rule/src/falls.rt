@@ -1,6 +1,6 @@
 // Boxes that fall, and so who closes a round and whom each box hears.
-ghost use Rattle.std.specs.Prelude.{◌≡◌, ◌||◌, ◌==◌};
-ghost use Rattle.rule.specs.Falls.{lasts, reaches};
+ghost use Rattle.std.specs.Prelude.{◌≡◌};
+ghost use Rattle.rule.specs.Falls.{lasts, hears};
 
 use sets::{BoxNumber, BoxSet, RoundNumber};
 
@@ -22,8 +22,9 @@ pub fn closes(fall: Option<Fall>, round: RoundNumber) -> bool
 }
 
 // Whether a box that closes the round hears the sender in it, by the sender's fall if it fell.
+#[tactic(auto, unfolding(crate::specs::Falls::hears))]
 pub fn hears(hearer: BoxNumber, round: RoundNumber, sender: BoxNumber, fall: Option<Fall>) -> bool
-    ensures { result ≡ (sender.0 == hearer.0 || reaches fall round.0 hearer.0) }
+    ensures { result ≡ hears (λ _. fall) hearer.0 round.0 sender.0 }
 {
     sender == hearer
         || match fall {

@@ -1,4 +1,5 @@
-// The rule by which the boxes ring: who hears whom where boxes fall, and what follows from it, with no box and no frame.
+// The rule by which the boxes ring: who hears whom where boxes fall, what each then holds, that all ring at once, and that a box of the
+// crate `boxes` follows it.
 #![tactic(auto)]
 
 mod falls;

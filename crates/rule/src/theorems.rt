@@ -2,7 +2,7 @@
 ghost use Rattle.std.specs.Prelude.{◌≡◌};
 ghost use Rattle.rule.specs.Histories.{History};
 ghost use Rattle.rule.specs.Examples.{Examples};
-ghost use Rattle.rule.specs.Theorems.{Agreement, BoxBegins, BoxRests, BoxAdmits, BoxFollows, BoxFollowsTold};
+ghost use Rattle.rule.specs.Theorems.{Agreement, SomeRemains, BoxBegins, BoxRests, BoxAdmits, BoxFollows, BoxFollowsTold};
 
 use boxes::boxes_stand;
 use kinds::Kind;
@@ -12,6 +12,7 @@ use kinds::Kind;
 pub fn rule_stands<K: Kind>() -> u8
     ensures zero { result ≡ 0 }
     ensures agree { (h : History K) → Agreement h K.leads }
+    ensures remains { (h : History K) → SomeRemains h }
     ensures begins { (h : History K) → BoxBegins h K.leads }
     ensures rests { (h : History K) → BoxRests h K.leads }
     ensures admits { (h : History K) → BoxAdmits h K.leads }

@@ -1,5 +1,5 @@
 use Rattle.std.proofs.Common.{arith}
-use Rattle.rule.proofs.Agree.{agreement}
+use Rattle.rule.proofs.Agree.{agreement, remains}
 use Rattle.rule.proofs.Follows.{begins, rests_there, is_admitted, follows}
 use Rattle.rule.proofs.Told.{told_follows}
 use Rattle.rule.proofs.theorems.rule_stands.Goals as goal
@@ -11,6 +11,7 @@ returns g c =
     record {
       zero = omega arith;
       agree = λ h allowed quiet. agreement h allowed quiet k.leads m.total m.transitive m.antisymmetric;
+      remains = remains;
       begins = λ h. begins h k.leads;
       rests = λ h. rests_there h k.leads;
       admits = λ h allowed. is_admitted h k.leads allowed;
