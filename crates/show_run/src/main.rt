@@ -85,7 +85,7 @@ fn listen(hearer: Resting<Piece>, round: RoundNumber, seats: &[Seat; 4]) -> Resu
     })
 }
 
-// A line of what the box holds after the round; what is left of it at rest, if it is.
+// Closes the round, with a line of what the box then holds; what is left of it at rest, if it is.
 fn close(
     rt: &impl Print,
     hearer: Resting<Piece>,
@@ -93,19 +93,17 @@ fn close(
     ear: Ear,
 ) -> io::Result<Option<Resting<Piece>>> {
     let horizon = RoundNumber(round.0.saturating_add(T).saturating_sub(ear.known.count()));
-    let best = hearer.horizon().min(horizon);
-    let (estimate, left) = match ear.listening.close() {
-        Ok(Closed::Rests(b)) => (b.estimate(), Some(b)),
-        Ok(Closed::Rings { proposal, .. }) => (proposal, None),
+    let (estimate, missing, best, left) = match ear.listening.close() {
+        Ok(Closed::Rests(b)) => (b.estimate(), b.missing(), b.horizon(), Some(b)),
+        Ok(Closed::Rings { round, proposal }) => (proposal, ear.missing, round, None),
         Err((_, fault)) => {
             println!(rt; "box {} refused {}", hearer.number(), fault.refusal())?;
             return Ok(None);
         }
     };
     println!(rt;
-        "box {}: estimate {estimate}, missing {}, horizon {horizon}, best horizon {best}{}",
+        "box {}: estimate {estimate}, missing {missing}, horizon {horizon}, best horizon {best}{}",
         hearer.number(),
-        ear.missing,
         if left.is_some() { "" } else { ", rings" }
     )?;
     Ok(left)
