@@ -7,7 +7,7 @@ use Rattle.rule.specs.declared.falls.Fall.{Fall}
 use Rattle.rule.specs.Falls.{fell_before, fell_in, closes, waste}
 use Rattle.rule.specs.Histories.{History, Allowed, ringing_round}
 use Rattle.rule.specs.Values.{smallest, best_horizon, rings, estimate}
-use Rattle.rule.specs.Theorems.{QuietBefore, RingsLast, RingsInTheRound, NeverPassed, RingsOnOne, RingsOnProposal, RingsOnFirst}
+use Rattle.rule.specs.Theorems.{QuietBefore, RingsInTheRound, NeverPassed, RingsOnOne, RingsOnProposal, RingsOnFirst}
 use Rattle.rule.proofs.Waste.{best_late, waste_few, waste_last, rings_when, rings_then, peak, peak_clean, clean_by, lacking_few}
 use Rattle.rule.proofs.Estimates.{Agree, agree_clean, agree_from, estimate_proposed, estimate_leads}
 
@@ -76,9 +76,6 @@ module _ {K : Type 0} (h : History K) (allowed : Allowed h) where
 
     never_passed : NeverPassed h
     never_passed = let n = not_passed h.closed quiet in omega arith
-
-    last_due : (p : ℕ) → RingsLast h p → Due h.closed
-    last_due p (l, c, e) = rings_due h.closed p l c quiet e
 
     module _ (leads : K → K → Bool) (total : (x y : K) → (leads x y ≡ true) ⊎ (leads y x ≡ true))
         (transitive : (x y z : K) → leads x y ≡ true → leads y z ≡ true → leads x z ≡ true)

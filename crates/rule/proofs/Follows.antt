@@ -20,7 +20,7 @@ use Rattle.rule.specs.Falls.{closes, hears, found_missing}
 use Rattle.rule.specs.Histories.{History, Allowed}
 use Rattle.rule.specs.Values.{missed, known, estimate}
 use Rattle.rule.specs.Values as rule
-use Rattle.rule.specs.Boxes.{held_after, sends_after, hears_after, outcome_of}
+use Rattle.rule.specs.Boxes.{held_after, sends_after, hears_after, is_in_reach, outcome_of}
 use Rattle.rule.specs.Theorems.{QuietBefore}
 use Rattle.rule.proofs.Rounds.{closed_before, closing_heard, heard_closed, missing_open}
 use Rattle.rule.proofs.Clean.{missed_missing, known_missing}
@@ -113,12 +113,9 @@ module _ {K : Type 0} (h : History K) (leads : K → K → Bool) (allowed : Allo
   -- ---- closing
 
   module _ (p r : ℕ) where
-    abbrev in_reach : ℕ → Bool
-    in_reach q = ltb q h.n && hears h.falls p (suc r) q
-
     not_heard_is : not_heard (held_after h leads p r) (hears_after h leads p r) ≡ missing_set p (suc r)
     unfolding held_after hears_after missed
-    not_heard_is = set_ext _ _ (λ i _. let s = is_some-alone (in_reach i) (sends_after h leads i r) in grind arith)
+    not_heard_is = set_ext _ _ (λ i _. let s = is_some-alone (is_in_reach h leads p r i) (sends_after h leads i r) in grind arith)
 
     -- the boxes that p knows missing by round r + 1, as a set
     abbrev known_set : BoxSet
@@ -131,7 +128,7 @@ module _ {K : Type 0} (h : History K) (leads : K → K → Bool) (allowed : Allo
     unfolding held_after hears_after known
     told_is = set_ext _ _ (λ i _.
         any_ext _ (λ q. ltb i h.n && (hears h.falls p (suc r) q && missed h q r i)) h.n (λ q l.
-        let s = tells-alone (in_reach q) (sends_after h leads q r) i in
+        let s = tells-alone (is_in_reach h leads p r q) (sends_after h leads q r) i in
         let m = missing_is q r i in
         grind (arith, nat_tests))
         ∙ any-and (ltb i h.n) (λ q. hears h.falls p (suc r) q && missed h q r i) h.n)
@@ -147,8 +144,8 @@ module _ {K : Type 0} (h : History K) (leads : K → K → Bool) (allowed : Allo
     unfolding held_after hears_after estimate
     first_is = ap (λ o. unwrap_or o (estimate h leads p r)) (foremost_ext leads
         (λ q. is_some (hears_after h leads p r q)) (hears h.falls p (suc r)) _ (λ q. estimate h leads q r) h.n
-        (λ q l. let s = is_some-alone (in_reach q) (sends_after h leads q r) in grind (arith, nat_tests))
-        (λ q _ e. estimate_in-when (in_reach q) _ (sends_after h leads q r) (sym (is_some-alone (in_reach q) (sends_after h leads q r)) ∙ e)))
+        (λ q l. let s = is_some-alone (is_in_reach h leads p r q) (sends_after h leads q r) in grind (arith, nat_tests))
+        (λ q _ e. estimate_in-when (is_in_reach h leads p r q) _ (sends_after h leads q r) (sym (is_some-alone (is_in_reach h leads p r q) (sends_after h leads q r)) ∙ e)))
 
     module _ (l : p < h.n) (c : closes h.falls p (suc r) ≡ true) where
       -- who is known missing closed no round since, and is not heard

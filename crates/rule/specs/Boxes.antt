@@ -32,9 +32,13 @@ module _ {K : Type 0} (h : History K) (leads : K → K → Bool) where
   unfoldable pub outcome_of : ℕ → ℕ → Outcome K
   outcome_of p r = cond (rule.rings h p r) (rings (record { 0 = r }) (estimate h leads p r)) (rests (held_after p r))
 
-  -- of each box that p hears in round r + 1 what it sends
+  -- box q is of the company, and p hears it in round r + 1
+  abbrev pub is_in_reach : ℕ → ℕ → ℕ → Bool
+  is_in_reach p r q = nat_lt q h.n && hears h.falls p (suc r) q
+
+  -- of each of these what it sends
   unfoldable pub hears_after : ℕ → ℕ → Heard K
-  hears_after p r q = cond (nat_lt q h.n && hears h.falls p (suc r) q) (Some (sends_after q r)) None
+  hears_after p r q = cond (is_in_reach p r q) (Some (sends_after q r)) None
 
   -- among some frames are those of all other boxes that p hears in round r + 1, and no others but its own
   abbrev pub AreHeard : ℕ → ℕ → List (Frame K) → Type 0
