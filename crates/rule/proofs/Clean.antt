@@ -50,11 +50,11 @@ module _ {K : Type 0} (h : History K) where
   not_heard_missed x r q c e = ap not (fell_not_heard h.falls x (suc r) q c e)
 
   -- after a clean round a box knows all missing who were found so before it: it misses who fell earlier, and hears whoever missed the others
-  pub clean_known : ((q : ℕ) → fell_before (h.falls q) 1 ≡ false) → (p r q : ℕ) → p < h.n → closes h.falls p (suc r) ≡ true → Clean r
+  pub clean_known : (p r q : ℕ) → fell_before (h.falls q) 1 ≡ false → p < h.n → closes h.falls p (suc r) ≡ true → Clean r
       → found_missing h.falls h.n r q ≡ true → known h p (suc r) q ≡ true
   unfolding found_missing
-  clean_known dated p zero q l c k e = absurd (both_ways (found_missing h.falls h.n 0 q) (none_missing h.falls dated h.n q) e)
-  clean_known dated p (suc s) q l c k e = by (cases_Bool (fell_before (h.falls q) (suc s))) (any_has (λ x. fell_unheard (h.falls q) (suc s) x && closes h.falls x (suc s)) h.n)
+  clean_known p zero q dated l c k e = absurd (both_ways (found_missing h.falls h.n 0 q) (none_missing h.falls h.n q dated) e)
+  clean_known p (suc s) q dated l c k e = by (cases_Bool (fell_before (h.falls q) (suc s))) (any_has (λ x. fell_unheard (h.falls q) (suc s) x && closes h.falls x (suc s)) h.n)
     where
       told : (x : ℕ) → x < h.n → closes h.falls x (suc s) ≡ true → (fell_before (h.falls q) (suc s) || fell_unheard (h.falls q) (suc s) x) ≡ true
           → known h p (suc (suc s)) q ≡ true

@@ -7,6 +7,7 @@ use Rattle.sets.specs.declared.set.BoxSet.{BoxSet}
 use Rattle.sets.specs.Tests.{any, count}
 use Rattle.sets.specs.Masks.{member, set_of}
 use Rattle.sets.proofs.Bits.{bit-mask_of, mask_below, set_ext}
+use Rattle.sets.proofs.Members.{company_member, company_count}
 use Rattle.sets.proofs.Counts.{any_ext, any-and, none_any, count_ext, count_le, count_within}
 use Rattle.kinds.proofs.Firsts.{foremost_ext}
 use Rattle.frames.specs.declared.frame.Frame.{Frame}
@@ -20,8 +21,7 @@ use Rattle.rule.specs.Falls.{closes, hears, found_missing}
 use Rattle.rule.specs.Histories.{History, Allowed}
 use Rattle.rule.specs.Values.{missed, known, estimate}
 use Rattle.rule.specs.Values as rule
-use Rattle.rule.specs.Boxes.{held_after, sends_after, hears_after, is_in_reach, outcome_of}
-use Rattle.rule.specs.Theorems.{QuietBefore}
+use Rattle.rule.specs.Boxes.{held_after, sends_after, hears_after, hears_of_company, outcome_of}
 use Rattle.rule.proofs.Rounds.{closed_before, closing_heard, heard_closed, missing_open}
 use Rattle.rule.proofs.Clean.{missed_missing, known_missing}
 use Rattle.rule.proofs.Waste.{best_down, best_late, lacking_few}
@@ -35,13 +35,12 @@ module _ {K : Type 0} (h : History K) (leads : K → K → Bool) (allowed : Allo
   missing_set p r = set_of (λ q. ltb q h.n && missed h p r q)
 
   missing_is : (p r i : ℕ) → member (missing_set p r) i ≡ (ltb i h.n && missed h p r i)
-  missing_is p r i = let m = bit-mask_of (λ q. ltb q h.n && missed h p r q) 32 i in let f = few in grind (arith, nat_tests)
+  missing_is p r = company_member h.n (missed h p r) few
 
   -- no more than may fall
   missed_few : (p r : ℕ) → p < h.n → closes h.falls p r ≡ true → count (member (missing_set p r)) 32 ≤ h.t
   missed_few p r l c =
-      let a = count_ext (member (missing_set p r)) (λ i. ltb i h.n && missed h p r i) 32 (λ i _. missing_is p r i) in
-      let b = count_within (missed h p r) h.n 32 few in
+      let a = company_count h.n (missed h p r) few in
       let d = count_le (missed h p r) (found_missing h.falls h.n r) h.n (λ q _. missed_missing h p r q l c) in
       omega (arith, lacking_few h allowed r)
 
@@ -66,12 +65,12 @@ module _ {K : Type 0} (h : History K) (leads : K → K → Bool) (allowed : Allo
 
   -- ---- a box at rest
 
-  pub rests_there : (p r : ℕ) → p < h.n → closes h.falls p r ≡ true → QuietBefore h (suc r) → (b : Resting K) × (b.held ≡ held_after h leads p r)
+  pub rests_there : (p r : ℕ) → p < h.n → closes h.falls p r ≡ true → ((k : ℕ) → k ≤ r → rule.rings h p k ≡ false) → (b : Resting K) × (b.held ≡ held_after h leads p r)
   unfolding held_after rule.best_horizon rule.smallest
   rests_there p r l c quiet =
       let size = allowed.size in
-      let late = best_late h allowed p r l c (λ q k m s. quiet q k m (omega arith)) in
-      let silent = quiet p r l (omega arith) c in
+      let late = best_late h allowed p r c (λ k m. quiet k (omega arith)) in
+      let silent = quiet r (omega arith) in
       let down = best_down h p 0 r (omega arith) in
       let own = missing_is p r p in
       let heard = not_missed p p r c in (
@@ -115,26 +114,23 @@ module _ {K : Type 0} (h : History K) (leads : K → K → Bool) (allowed : Allo
   module _ (p r : ℕ) where
     not_heard_is : not_heard (held_after h leads p r) (hears_after h leads p r) ≡ missing_set p (suc r)
     unfolding held_after hears_after missed
-    not_heard_is = set_ext _ _ (λ i _. let s = is_some-alone (is_in_reach h leads p r i) (sends_after h leads i r) in grind arith)
+    not_heard_is = set_ext _ _ (λ i _. let s = is_some-alone (hears_of_company h p (suc r) i) (sends_after h leads i r) in grind arith)
 
     -- the boxes that p knows missing by round r + 1, as a set
     abbrev known_set : BoxSet
     known_set = set_of (λ i. ltb i h.n && known h p (suc r) i)
 
     known_is : (i : ℕ) → member known_set i ≡ (ltb i h.n && known h p (suc r) i)
-    known_is i = let m = bit-mask_of (λ q. ltb q h.n && known h p (suc r) q) 32 i in let f = few in grind (arith, nat_tests)
+    known_is = company_member h.n (known h p (suc r)) few
 
     told_is : told_missing (held_after h leads p r) (hears_after h leads p r) ≡ known_set
     unfolding held_after hears_after known
     told_is = set_ext _ _ (λ i _.
         any_ext _ (λ q. ltb i h.n && (hears h.falls p (suc r) q && missed h q r i)) h.n (λ q l.
-        let s = tells-alone (is_in_reach h leads p r q) (sends_after h leads q r) i in
+        let s = tells-alone (hears_of_company h p (suc r) q) (sends_after h leads q r) i in
         let m = missing_is q r i in
         grind (arith, nat_tests))
         ∙ any-and (ltb i h.n) (λ q. hears h.falls p (suc r) q && missed h q r i) h.n)
-
-    known_counted : count (member known_set) 32 ≡ count (known h p (suc r)) h.n
-    known_counted = count_ext (member known_set) (λ i. ltb i h.n && known h p (suc r) i) 32 (λ i _. known_is i) ∙ count_within (known h p (suc r)) h.n 32 few
 
     estimate_in-when : (t : Bool) (d : K) (f : Frame K) → t ≡ true → estimate_in d (cond t (Some f) None) ≡ f.estimate
     estimate_in-when true d f e = refl
@@ -144,8 +140,8 @@ module _ {K : Type 0} (h : History K) (leads : K → K → Bool) (allowed : Allo
     unfolding held_after hears_after estimate
     first_is = ap (λ o. unwrap_or o (estimate h leads p r)) (foremost_ext leads
         (λ q. is_some (hears_after h leads p r q)) (hears h.falls p (suc r)) _ (λ q. estimate h leads q r) h.n
-        (λ q l. let s = is_some-alone (is_in_reach h leads p r q) (sends_after h leads q r) in grind (arith, nat_tests))
-        (λ q _ e. estimate_in-when (is_in_reach h leads p r q) _ (sends_after h leads q r) (sym (is_some-alone (is_in_reach h leads p r q) (sends_after h leads q r)) ∙ e)))
+        (λ q l. let s = is_some-alone (hears_of_company h p (suc r) q) (sends_after h leads q r) in grind (arith, nat_tests))
+        (λ q _ e. estimate_in-when (hears_of_company h p (suc r) q) _ (sends_after h leads q r) (sym (is_some-alone (hears_of_company h p (suc r) q) (sends_after h leads q r)) ∙ e)))
 
     module _ (l : p < h.n) (c : closes h.falls p (suc r) ≡ true) where
       -- who is known missing closed no round since, and is not heard
@@ -165,7 +161,7 @@ module _ {K : Type 0} (h : History K) (leads : K → K → Bool) (allowed : Allo
 
       best_is : box.best_horizon (held_after h leads p r) known_set ≡ rule.best_horizon h p (suc r)
       unfolding held_after rule.best_horizon rule.smallest
-      best_is = λ j. min (rule.best_horizon h p r) (add-one r j + h.t - known_counted j)
+      best_is = λ j. min (rule.best_horizon h p r) (add-one r j + h.t - company_count h.n (known h p (suc r)) few j)
 
       abbrev end : ℕ → ℕ → Outcome K
       end best round = cond (eqb best round) (rings (record { 0 = round }) (estimate h leads p (suc r)))

@@ -6,3 +6,4 @@ pub mod Agree
 pub mod Follows
 pub mod Told
 pub mod Worked
+pub mod Past

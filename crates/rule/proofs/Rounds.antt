@@ -1,11 +1,11 @@
 -- Who closes a round, who hears whom in it, who is found missing. Assumes nothing.
-use Rattle.std.proofs.Common.{◌≡◌, ℕ, suc, ◌<◌, ◌≤◌, true, false, not, ◌&&◌, ◌||◌, eqb, Some, None, Option, refl, arith}
+use Rattle.std.proofs.Common.{◌≡◌, ℕ, suc, ◌<◌, ◌≤◌, true, false, not, ◌&&◌, ◌||◌, eqb, is_some, Some, None, Option, refl, arith}
 use Rattle.std.proofs.Math.Decide.{le_ind}
 use Rattle.std.proofs.lemmas.Bool.Decides.{nat_tests}
 use Rattle.sets.specs.Tests.{any}
 use Rattle.sets.proofs.Counts.{any_from, any_has, none_any}
 use Rattle.rule.specs.declared.falls.Fall.{Fall}
-use Rattle.rule.specs.Falls.{Falls, fell_before, fell_in, fell_unheard, closes, hears, found_missing}
+use Rattle.rule.specs.Falls.{Falls, fell_before, fell_in, fell_unheard, lasts, closes, hears, found_missing}
 
 -- ---- one box that falls
 
@@ -16,6 +16,11 @@ fell_next (Some f) r = grind (arith, nat_tests)
 fell_once : (o : Option Fall) (r : ℕ) → fell_before o r ≡ true → fell_in o r ≡ false
 fell_once None r e = refl
 fell_once (Some f) r e = grind (arith, nat_tests)
+
+-- who closes no round has fallen
+pub open_fell : (o : Option Fall) (r : ℕ) → lasts o r ≡ false → is_some o ≡ true
+open_fell None r e = absurd (grind arith)
+open_fell (Some f) r e = refl
 
 unheard_fell : (o : Option Fall) (r p : ℕ) → fell_unheard o r p ≡ true → fell_in o r ≡ true
 unheard_fell None r p e = e
@@ -78,10 +83,9 @@ module _ (falls : Falls) where
   -- ---- who is found missing
 
   -- rounds count from 1: nobody is missing at the start
-  pub none_missing : ((q : ℕ) → fell_before (falls q) 1 ≡ false) → (n q : ℕ) → found_missing falls n 0 q ≡ false
+  pub none_missing : (n q : ℕ) → fell_before (falls q) 1 ≡ false → found_missing falls n 0 q ≡ false
   unfolding found_missing
-  none_missing dated n q =
-      let d = dated q in
+  none_missing n q dated =
       let s = fell_next (falls q) 0 in
       let a = none_any (λ p. fell_unheard (falls q) 0 p && closes falls p 0) n (λ p _. let u = unheard_fell (falls q) 0 p in grind arith) in
       grind arith

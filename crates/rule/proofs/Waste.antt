@@ -4,19 +4,12 @@ use Rattle.std.proofs.Math.Decide.{le_ind}
 use Rattle.std.proofs.lemmas.Bool.{cases_lt}
 use Rattle.std.proofs.lemmas.Bool.Decides.{nat_tests}
 use Rattle.sets.specs.Tests.{count}
-use Rattle.sets.proofs.Counts.{count_le, count_none, count_ext, count_same}
-use Rattle.rule.specs.declared.falls.Fall.{Fall}
-use Rattle.rule.specs.Falls.{fell_before, fell_in, closes, found_missing, missing_count, waste}
+use Rattle.sets.proofs.Counts.{any_none, count_le, count_none, count_ext, count_same}
+use Rattle.rule.specs.Falls.{fell_before, closes, found_missing, missing_count, waste}
 use Rattle.rule.specs.Histories.{History, Allowed}
-use Rattle.rule.specs.Values.{known, smallest, best_horizon}
-use Rattle.rule.specs.Theorems.{QuietBefore}
-use Rattle.rule.proofs.Rounds.{closed_before, closed_from, missing_open, missing_stays, none_missing}
+use Rattle.rule.specs.Values.{known, smallest, best_horizon, rings}
+use Rattle.rule.proofs.Rounds.{open_fell, closed_before, closed_from, missing_open, missing_stays, none_missing}
 use Rattle.rule.proofs.Clean.{Clean, known_missing, clean_known}
-
--- who closes no round has fallen
-open_fell : (o : Option Fall) (r : ℕ) → (fell_before o r || fell_in o r) ≡ true → is_some o ≡ true
-open_fell None r e = e
-open_fell (Some f) r e = refl
 
 module _ {K : Type 0} (h : History K) where
   -- how many are found missing in round r
@@ -46,11 +39,15 @@ module _ {K : Type 0} (h : History K) where
     pub lacking_few : (r : ℕ) → lacking r ≤ h.t
     lacking_few r = omega (arith, count_le (found_missing h.falls h.n r) (λ q. is_some (h.falls q)) h.n (λ q _. missing_fell r q), allowed.few)
 
+    -- rounds count from 1
+    dated : (q : ℕ) → q < h.n → fell_before (h.falls q) 1 ≡ false
+    dated = any_none (λ q. fell_before (h.falls q) 1) h.n allowed.dated
+
     lacking_none : lacking 0 ≡ 0
-    lacking_none = count_ext (found_missing h.falls h.n 0) (λ _. false) h.n (λ q _. none_missing h.falls allowed.dated h.n q) ∙ count_none h.n
+    lacking_none = count_ext (found_missing h.falls h.n 0) (λ _. false) h.n (λ q l. none_missing h.falls h.n q (dated q l)) ∙ count_none h.n
 
     clean_count : (p r : ℕ) → p < h.n → closes h.falls p (suc r) ≡ true → Clean h r → lacking r ≤ count (known h p (suc r)) h.n
-    clean_count p r l c k = count_le (found_missing h.falls h.n r) (known h p (suc r)) h.n (λ q _. clean_known h allowed.dated p r q l c k)
+    clean_count p r l c k = count_le (found_missing h.falls h.n r) (known h p (suc r)) h.n (λ q m. clean_known h p r q (dated q m) l c k)
 
     -- it is never below what the waste of the rounds before allows
     best_waste : (p r : ℕ) → closes h.falls p (suc r) ≡ true → h.t + 1 ≤ best_horizon h p (suc r) + waste h.falls h.n r
@@ -62,14 +59,13 @@ module _ {K : Type 0} (h : History K) where
         let b = lacking_few (suc r) in
         omega arith
 
-    -- nor, where nobody rang before, below the round
-    pub best_late : (p r : ℕ) → p < h.n → closes h.falls p r ≡ true → QuietBefore h r → r ≤ best_horizon h p r
+    -- nor, where the box did not ring before, below the round
+    pub best_late : (p r : ℕ) → closes h.falls p r ≡ true → ((k : ℕ) → k < r → rings h p k ≡ false) → r ≤ best_horizon h p r
     unfolding best_horizon smallest
-    best_late p zero l c quiet = omega arith
-    best_late p (suc r) l c quiet =
-        let d = closed_before h.falls p r c in
-        let ih = best_late p r l d (λ q k m s. quiet q k m (omega arith)) in
-        let s = quiet p r l (omega arith) d in
+    best_late p zero c quiet = omega arith
+    best_late p (suc r) c quiet =
+        let ih = best_late p r (closed_before h.falls p r c) (λ k m. quiet k (omega arith)) in
+        let s = quiet r (omega arith) in
         let a = known_count p r c in
         let b = lacking_few r in
         grind (arith, nat_tests)
@@ -88,6 +84,10 @@ module _ {K : Type 0} (h : History K) where
     unfolding waste
     waste_few zero = omega arith
     waste_few (suc r) = omega (arith, waste_few r, lacking_few (suc r))
+
+    pub waste_up : (a b : ℕ) → a ≤ b → waste h.falls h.n a ≤ waste h.falls h.n b
+    unfolding waste
+    waste_up a b l = le_ind (λ (m : ℕ). waste h.falls h.n a ≤ waste h.falls h.n m) (omega arith) (λ m k e. omega arith) b l
 
     -- the last round up to k that reaches their waste: the round after it is clean, unless it is k itself
     pub record Peak (k : ℕ) : Type 0 where
@@ -124,7 +124,7 @@ module _ {K : Type 0} (h : History K) where
 
     -- ---- a box that closes round k + 1 rings in it exactly if that is t + 1 - D
 
-    module _ (p k : ℕ) (l : p < h.n) (c : closes h.falls p (suc k) ≡ true) (late : suc k ≤ best_horizon h p (suc k)) where
+    module _ (p k : ℕ) (l : p < h.n) (c : closes h.falls p (suc k) ≡ true) where
       pub rings_when : best_horizon h p (suc k) ≡ suc k → suc k + waste h.falls h.n (suc k) ≡ h.t + 1
       rings_when e =
           let s = best_waste p k c in
@@ -138,5 +138,6 @@ module _ {K : Type 0} (h : History K) where
       rings_then e =
           let q = peak k in
           let s = waste_last k e in
+          let w = best_waste p k c in
           let b = best_clean p q.top (suc k) l c (omega (arith, q.under)) (peak_clean k q s) in
           omega (arith, q.reached)

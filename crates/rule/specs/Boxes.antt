@@ -11,6 +11,10 @@ use Rattle.rule.specs.Histories.{History}
 use Rattle.rule.specs.Values as rule
 use Rattle.rule.specs.Values.{missed, best_horizon, estimate}
 
+-- box q is of the company, and box p hears it in round r
+abbrev pub hears_of_company : {K : Type 0} → History K → ℕ → ℕ → ℕ → Bool
+hears_of_company h p r q = nat_lt q h.n && hears h.falls p r q
+
 module _ {K : Type 0} (h : History K) (leads : K → K → Bool) where
   -- what box p holds after round r, while it has not rung
   unfoldable pub held_after : ℕ → ℕ → Held K
@@ -32,16 +36,12 @@ module _ {K : Type 0} (h : History K) (leads : K → K → Bool) where
   unfoldable pub outcome_of : ℕ → ℕ → Outcome K
   outcome_of p r = cond (rule.rings h p r) (rings (record { 0 = r }) (estimate h leads p r)) (rests (held_after p r))
 
-  -- box q is of the company, and p hears it in round r + 1
-  abbrev pub is_in_reach : ℕ → ℕ → ℕ → Bool
-  is_in_reach p r q = nat_lt q h.n && hears h.falls p (suc r) q
-
-  -- of each of these what it sends
+  -- of each box that p hears in round r + 1 what it sends
   unfoldable pub hears_after : ℕ → ℕ → Heard K
-  hears_after p r q = cond (is_in_reach p r q) (Some (sends_after q r)) None
+  hears_after p r q = cond (hears_of_company h p (suc r) q) (Some (sends_after q r)) None
 
   -- among some frames are those of all other boxes that p hears in round r + 1, and no others but its own
   abbrev pub AreHeard : ℕ → ℕ → List (Frame K) → Type 0
   AreHeard p r came =
-      ((q : ℕ) → q < h.n → hears h.falls p (suc r) q ≡ true → (q ≡ p) ⊎ Contains came (sends_after q r))
-      × ((f : Frame K) → Contains came f → (q : ℕ) × (q < h.n) × (hears h.falls p (suc r) q ≡ true) × (f ≡ sends_after q r))
+      ((q : ℕ) → hears_of_company h p (suc r) q ≡ true → (q ≡ p) ⊎ Contains came (sends_after q r))
+      × ((f : Frame K) → Contains came f → (q : ℕ) × (hears_of_company h p (suc r) q ≡ true) × (f ≡ sends_after q r))

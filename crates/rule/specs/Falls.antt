@@ -31,6 +31,10 @@ abbrev pub fell_unheard : Option Fall → ℕ → ℕ → Bool
 fell_unheard None r p = false
 fell_unheard (Some f) r p = f.round.0 == r && member f.lost p
 
+-- the falls of the rounds up to s
+abbrev pub past : ℕ → Falls → Falls
+past s falls q = cond (fell_before (falls q) (suc s)) (falls q) None
+
 -- it fell neither before round r nor in it: the box closes the round
 abbrev pub lasts : Option Fall → ℕ → Bool
 lasts fall r = not (fell_before fall r || fell_in fall r)

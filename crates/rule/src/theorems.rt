@@ -2,7 +2,7 @@
 ghost use Rattle.std.specs.Prelude.{◌≡◌};
 ghost use Rattle.rule.specs.Histories.{History};
 ghost use Rattle.rule.specs.Examples.{Examples};
-ghost use Rattle.rule.specs.Theorems.{Agreement, SomeRemains, BoxBegins, BoxRests, BoxAdmits, BoxFollows, BoxFollowsTold};
+ghost use Rattle.rule.specs.Theorems.{Agreement, SomeRemains, BoxBegins, BoxRests, BoxAdmits, BoxFollows, BoxFollowsTold, OnlyPast, FallToCome};
 
 use boxes::boxes_stand;
 use kinds::Kind;
@@ -17,6 +17,8 @@ pub fn rule_stands<K: Kind>() -> u8
     ensures rests { (h : History K) → BoxRests h K.leads }
     ensures admits { (h : History K) → BoxAdmits h K.leads }
     ensures follows { (h : History K) → BoxFollows h K.leads }
+    ensures past { (h : History K) → OnlyPast h K.leads }
+    ensures coming { FallToCome }
     ensures told { (h : History K) → BoxFollowsTold h K.leads K.SIZE K.named }
 {
     let _ = boxes_stand::<K>();

@@ -5,7 +5,7 @@ use Rattle.sets.specs.declared.set.BoxSet.{BoxSet}
 use Rattle.sets.specs.Tests.{any, count}
 use Rattle.sets.specs.Masks.{member, set_of}
 use Rattle.sets.proofs.Bits.{bit_high, bit-mask_of, mask_below, set_ext, set_is}
-use Rattle.sets.proofs.Counts.{any_none, count_ext, count_le, count_none}
+use Rattle.sets.proofs.Counts.{any_none, count_ext, count_le, count_none, count_within}
 
 -- whether a number below 32 is in the set that a test makes
 pub member_is : (P : ℕ → Bool) (s : BoxSet) → s ≡ set_of P → (i : ℕ) → i < 32 → member s i ≡ P i
@@ -66,3 +66,11 @@ module _ (n q : ℕ) (s t : BoxSet) (few : n ≤ 32) (h : s.mask < 2 ^ n) (l : q
 
   pub entered_within : t.mask < 2 ^ n
   entered_within = (mask_below n t.mask).1 (λ i m. let b = bit_high n s.mask i h m in let r = entering i in grind (arith, nat_tests))
+
+-- a set of the boxes of a company that pass: its members, and how many they are
+module _ (n : ℕ) (P : ℕ → Bool) (few : n ≤ 32) where
+  pub company_member : (i : ℕ) → member (set_of (λ q. ltb q n && P q)) i ≡ (ltb i n && P i)
+  company_member i = let m = bit-mask_of (λ q. ltb q n && P q) 32 i in grind (arith, nat_tests)
+
+  pub company_count : count (member (set_of (λ q. ltb q n && P q))) 32 ≡ count P n
+  company_count = count_ext (member (set_of (λ q. ltb q n && P q))) (λ i. ltb i n && P i) 32 (λ i _. company_member i) ∙ count_within P n 32 few
