@@ -6,9 +6,9 @@ use Rattle.numbers.specs.Refusals.{unless}
 use Rattle.sets.specs.declared.set.BoxSet.{BoxSet}
 use Rattle.sets.specs.Tests.{any, count}
 use Rattle.sets.specs.Masks.{member, set_of}
-use Rattle.sets.proofs.Bits.{bit-mask_of, mask_below, set_ext}
+use Rattle.sets.proofs.Bits.{mask_below, set_ext}
 use Rattle.sets.proofs.Members.{company_member, company_count}
-use Rattle.sets.proofs.Counts.{any_ext, any-and, none_any, count_ext, count_le, count_within}
+use Rattle.sets.proofs.Counts.{any_ext, any-and, none_any, count_le}
 use Rattle.kinds.proofs.Firsts.{foremost_ext}
 use Rattle.frames.specs.declared.frame.Frame.{Frame}
 use Rattle.boxes.specs.declared.states.Resting.{Resting}

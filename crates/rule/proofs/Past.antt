@@ -1,15 +1,14 @@
 -- What is still to come does not count. Assumes nothing.
-use Rattle.std.proofs.Common.{◌≡◌, ℕ, zero, suc, ◌+◌, ◌-◌, ◌<◌, ◌≤◌, max, min, Bool, true, false, cond, not, ◌&&◌, ◌||◌, eqb, ltb, ◌⊎◌, Some, None, Option, unwrap_or, sym, refl, ap, ◌∙◌, inl, inr, arith}
+use Rattle.std.proofs.Common.{◌≡◌, ℕ, zero, suc, ◌+◌, ◌-◌, ◌≤◌, max, min, Bool, true, false, cond, not, ◌&&◌, ◌||◌, eqb, ltb, ◌⊎◌, Some, None, Option, unwrap_or, sym, refl, ap, ◌∙◌, inl, inr, arith}
 use Rattle.std.proofs.lemmas.Bool.{cases_Bool, eqb-true}
 use Rattle.std.proofs.lemmas.Bool.Decides.{nat_tests}
-use Rattle.sets.specs.declared.set.BoxSet.{BoxSet}
 use Rattle.sets.specs.Tests.{any, count}
 use Rattle.sets.specs.Masks.{set_of}
 use Rattle.kinds.specs.Orders.{foremost}
 use Rattle.rule.specs.declared.falls.Fall.{Fall}
-use Rattle.rule.specs.Falls.{Falls, with_fall, past, fell_before, fell_in, fell_unheard, lasts, reaches, closes, hears, found_missing, missing_count, waste}
+use Rattle.rule.specs.Falls.{Falls, with_fall, past, fell_before, fell_in, fell_unheard, closes, hears, found_missing, waste}
 use Rattle.rule.specs.Histories.{History, as_of}
-use Rattle.rule.specs.Values.{missed, known, horizon, smallest, best_horizon, estimate}
+use Rattle.rule.specs.Values.{missed, known, smallest, best_horizon, estimate}
 use Rattle.rule.specs.Boxes.{held_after}
 use Rattle.rule.specs.Theorems.{OnlyPast, FallToCome}
 

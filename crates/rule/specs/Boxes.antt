@@ -1,5 +1,5 @@
 -- What a box holds, sends and hears where it follows the rule. Assumes nothing.
-use Rattle.std.specs.Prelude.{◌≡◌, ℕ, suc, ◌<◌, Bool, true, cond, ◌&&◌, ◌⊎◌, List, Contains, Some, None, nat_lt}
+use Rattle.std.specs.Prelude.{◌≡◌, ℕ, suc, Bool, true, cond, ◌&&◌, ◌⊎◌, List, Contains, Some, None, nat_lt}
 use Rattle.sets.specs.Masks.{set_of}
 use Rattle.frames.specs.declared.frame.Frame.{Frame}
 use Rattle.boxes.specs.declared.states.Held.{Held}

@@ -23,11 +23,16 @@ pub fn closes(fall: Option<Fall>, round: RoundNumber) -> bool
 
 // Whether a box that closes the round hears the sender in it, by the sender's fall if it fell.
 #[tactic(auto, unfolding(crate::specs::Falls::hears))]
-pub fn hears(hearer: BoxNumber, round: RoundNumber, sender: BoxNumber, fall: Option<Fall>) -> bool
-    ensures { result ≡ hears (λ _. fall) hearer.0 round.0 sender.0 }
+pub fn hears(
+    hearer: BoxNumber,
+    round: RoundNumber,
+    sender: BoxNumber,
+    sender_fall: Option<Fall>,
+) -> bool
+    ensures { result ≡ hears (λ _. sender_fall) hearer.0 round.0 sender.0 }
 {
     sender == hearer
-        || match fall {
+        || match sender_fall {
             None => true,
             Some(fall) => fall.round > round || fall.round == round && !fall.lost.contains(hearer),
         }

@@ -7,8 +7,9 @@ ghost use Rattle.rule.specs.Theorems.{Agreement, SomeRemains, BoxBegins, BoxRest
 use boxes::boxes_stand;
 use kinds::Kind;
 
-// All boxes that ring do so in one round, which is t + 1 - D, and on one proposal, for every history. And a box of the crate `boxes` follows
-// the rule: told the frames of the boxes that it hears, it closes the round to the rule's values.
+// For every history that keeps the limits: all boxes that ring do so in one round, which is t + 1 - D, and on one proposal; some box closes
+// every round. A box of the crate `boxes` follows the rule: told the frames of the boxes that it hears in a round, and no others, it
+// closes the round to the rule's values. What is still to come does not count.
 pub fn rule_stands<K: Kind>() -> u8
     ensures zero { result ≡ 0 }
     ensures agree { (h : History K) → Agreement h K.leads }

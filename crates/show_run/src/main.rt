@@ -1,5 +1,5 @@
-// A run of four boxes, with what the rule gives each of them in each round, and who rings. Box 2 loses power while it sends in round 1,
-// and box 0 does not hear it.
+// A run of four boxes, each hearing just whom the rule lets it hear: what each then holds, the horizon of the round as it is added up here,
+// and who rings. Box 2 loses power while it sends in round 1, and box 0 does not hear it.
 #![tactic(auto)]
 
 use boxes::{Closed, Listening, Resting};
