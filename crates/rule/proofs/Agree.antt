@@ -1,8 +1,9 @@
 -- All that ring do so at once and on one proposal. Assumes nothing.
-use Rattle.std.proofs.Common.{◌≡◌, ℕ, zero, suc, ◌+◌, ◌<◌, ◌≤◌, Bool, true, false, ◌⊎◌, is_some, inl, inr, ap, ◌∙◌, arith}
-use Rattle.std.proofs.lemmas.Bool.{cases_order, eqb-true, eq-eqb}
+use Rattle.std.proofs.Common.{◌≡◌, ℕ, zero, suc, ◌+◌, ◌-◌, ◌<◌, ◌≤◌, Bool, ◌==◌, true, false, ◌⊎◌, is_some, inl, inr, ap, ◌∙◌, arith}
+use Rattle.std.proofs.lemmas.Bool.{cases_lt, cases_order, eqb-true, eq-eqb}
 use Rattle.std.proofs.lemmas.Bool.Decides.{nat_tests}
 use Rattle.sets.proofs.Counts.{one_fails}
+use Rattle.kinds.specs.Orders.{before}
 use Rattle.rule.specs.Falls.{closes, waste}
 use Rattle.rule.specs.Histories.{History, Allowed, ringing_round}
 use Rattle.rule.specs.Values.{smallest, best_horizon, rings, estimate}
@@ -40,6 +41,37 @@ module _ {K : Type 0} (h : History K) (allowed : Allowed h) where
   due_rings p zero l c e = absurd (let w = waste_few h allowed 0 in omega arith)
   due_rings p (suc k) l c e = eq-eqb _ _ (rings_then h allowed p k l c e)
 
+  -- no two rounds are t + 1 - D, since the waste only grows
+  due_once : (r s : ℕ) → Due r → Due s → r ≡ s
+  due_once r s a b = by (cases_order r s)
+    where
+      by : (r ≡ s) ⊎ ((r < s) ⊎ (s < r)) → r ≡ s
+      by (inl e) = e
+      by (inr (inl l)) = absurd (omega (arith, waste_up h allowed r s (omega arith)))
+      by (inr (inr l)) = absurd (omega (arith, waste_up h allowed s r (omega arith)))
+
+  -- and one is: up to it the sum grows by one a round, and it cannot be passed
+  abbrev DueBy : ℕ → Type 0
+  DueBy r = ((k : ℕ) × (k ≤ r) × Due k) ⊎ (r + waste h.falls h.n r ≤ h.t)
+
+  due_by : (r : ℕ) → DueBy r
+  unfolding waste
+  due_by zero = inr (omega arith)
+  due_by (suc r) = by (due_by r) (cases_lt (h.t) (suc r + waste h.falls h.n (suc r)))
+    where
+      by : DueBy r → (h.t < suc r + waste h.falls h.n (suc r)) ⊎ (suc r + waste h.falls h.n (suc r) ≤ h.t) → DueBy (suc r)
+      by (inl (k, l, d)) over = inl (k, omega arith, d)
+      by (inr under) (inl over) = inl (suc r, omega arith, omega (arith, lacking_few h allowed (suc r)))
+      by (inr under) (inr still) = inr still
+
+  pub company_rings : (r : ℕ) × (1 ≤ r) × (r ≤ h.t + 1) × QuietBefore h r × ((p : ℕ) → p < h.n → closes h.falls p r ≡ true → rings h p r ≡ true)
+  company_rings = by (due_by (h.t + 1))
+    where
+      by : DueBy (h.t + 1) → (r : ℕ) × (1 ≤ r) × (r ≤ h.t + 1) × QuietBefore h r × ((p : ℕ) → p < h.n → closes h.falls p r ≡ true → rings h p r ≡ true)
+      by (inl (r, l, d)) =
+          (r, omega (arith, waste_few h allowed r), l, λ p k m a. absurd (let e = due_once k r (rings_due p k a) d in omega arith), λ p l c. due_rings p r l c d)
+      by (inr under) = absurd (omega arith)
+
   -- while nobody rang, the round t + 1 - D is still to come
   not_passed : (r : ℕ) → QuietBefore h r → r + waste h.falls h.n r ≤ h.t + 1
   unfolding waste
@@ -64,19 +96,14 @@ module _ {K : Type 0} (h : History K) (allowed : Allowed h) where
   in_the_round p l c =
       let a : rings h p h.closed ≡ true → h.closed ≡ ringing_round h = λ e. due_round (rings_due p h.closed (l, c, e)) in
       let b : h.closed ≡ ringing_round h → rings h p h.closed ≡ true = λ e. due_rings p h.closed l c (round_due e) in
-      grind (arith, nat_tests)
+      let is : rings h p h.closed ≡ (h.closed == ringing_round h) = grind (arith, nat_tests) in
+      is
 
   never_passed : NeverPassed h
-  never_passed quiet = let n = not_passed h.closed quiet in omega arith
+  never_passed quiet = let n = not_passed h.closed quiet in let is : h.closed ≤ h.t + 1 - waste h.falls h.n h.closed = omega arith in is
 
-  -- the waste only grows, so no two rounds are t + 1 - D
   once : RingsOnce h
-  once p q r s a b = by (cases_order r s)
-    where
-      by : (r ≡ s) ⊎ ((r < s) ⊎ (s < r)) → r ≡ s
-      by (inl e) = e
-      by (inr (inl l)) = absurd (omega (arith, rings_due p r a, rings_due q s b, waste_up h allowed r s (omega arith)))
-      by (inr (inr l)) = absurd (omega (arith, rings_due p r a, rings_due q s b, waste_up h allowed s r (omega arith)))
+  once p q r s a b = due_once r s (rings_due p r a) (rings_due q s b)
 
   module _ (leads : K → K → Bool) (total : (x y : K) → (leads x y ≡ true) ⊎ (leads y x ≡ true))
       (transitive : (x y z : K) → leads x y ≡ true → leads y z ≡ true → leads x z ≡ true)
@@ -97,7 +124,8 @@ module _ {K : Type 0} (h : History K) (allowed : Allowed h) where
         let first = estimate_leads h leads total transitive q h.closed b.0 in
         let same = on_one p q a b in
         let mine : leads (estimate h leads p h.closed) (h.proposals q) ≡ true = ap (λ x. leads x (h.proposals q)) same ∙ first in
-        grind arith
+        let is : before leads (h.proposals q) (estimate h leads p h.closed) ≡ false = grind arith in
+        is
 
     pub agreement : RingsInTheRound h × NeverPassed h × RingsOnce h × RingsOnOne h leads × RingsOnProposal h leads × RingsOnFirst h leads
     agreement = (in_the_round, never_passed, once, on_one, λ p a. estimate_proposed h leads total transitive h.closed p a.0, on_first)

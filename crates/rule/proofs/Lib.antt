@@ -7,3 +7,4 @@ pub mod Follows
 pub mod Told
 pub mod Worked
 pub mod Past
+pub mod Sent

@@ -1,11 +1,12 @@
 -- Who closes a round, who hears whom in it, who is found missing. Assumes nothing.
-use Rattle.std.proofs.Common.{◌≡◌, ℕ, suc, ◌<◌, ◌≤◌, true, false, not, ◌&&◌, ◌||◌, eqb, is_some, Some, None, Option, refl, arith}
+use Rattle.std.proofs.Common.{◌≡◌, ℕ, suc, ◌<◌, ◌≤◌, true, false, not, ◌&&◌, ◌||◌, eqb, is_some, Some, None, Option, refl, ap, ◌∙◌, arith}
 use Rattle.std.proofs.Math.Decide.{le_ind}
 use Rattle.std.proofs.lemmas.Bool.Decides.{nat_tests}
 use Rattle.sets.specs.Tests.{any}
 use Rattle.sets.proofs.Counts.{any_from, any_has, none_any}
 use Rattle.rule.specs.declared.falls.Fall.{Fall}
-use Rattle.rule.specs.Falls.{Falls, fell_before, fell_in, fell_unheard, lasts, closes, hears, found_missing}
+use Rattle.rule.specs.Theorems.{StandsMean, FallsMean}
+use Rattle.rule.specs.Falls.{Falls, fell_before, fell_in, fell_unheard, lasts, reaches, closes, hears, found_missing}
 
 -- ---- one box that falls
 
@@ -25,6 +26,21 @@ open_fell (Some f) r e = refl
 unheard_fell : (o : Option Fall) (r p : ℕ) → fell_unheard o r p ≡ true → fell_in o r ≡ true
 unheard_fell None r p e = e
 unheard_fell (Some f) r p e = grind arith
+
+-- ---- what falls mean
+
+pub stands_mean : StandsMean
+unfolding closes hears
+stands_mean falls p q r e = (ap (λ o. lasts o r) e, ap (λ o. eqb q p || reaches o r p) e ∙ (grind arith))
+
+pub falls_mean : FallsMean
+unfolding closes hears
+falls_mean falls p q r f e other = (
+  ap (λ o. lasts o r) e ∙ (grind (arith, nat_tests)),
+  λ l. ap (λ o. eqb q p || reaches o r p) e ∙ (grind (arith, nat_tests)),
+  λ l. ap (λ o. eqb q p || reaches o r p) e ∙ (grind (arith, nat_tests)),
+  λ l. ap (λ o. eqb q p || reaches o r p) e ∙ (grind (arith, nat_tests)),
+)
 
 module _ (falls : Falls) where
   -- ---- who closes

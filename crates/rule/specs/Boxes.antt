@@ -1,5 +1,5 @@
 -- What a box holds, sends and hears where it follows the rule. Assumes nothing.
-use Rattle.std.specs.Prelude.{◌≡◌, ℕ, suc, Bool, true, cond, ◌&&◌, ◌⊎◌, List, Contains, Some, None, nat_lt}
+use Rattle.std.specs.Prelude.{◌≡◌, ℕ, zero, suc, Bool, true, cond, not, ◌&&◌, ◌⊎◌, List, [], ◌∷◌, ◌++◌, ◌==◌, Contains, Some, None, nat_lt}
 use Rattle.sets.specs.Masks.{set_of}
 use Rattle.frames.specs.declared.frame.Frame.{Frame}
 use Rattle.boxes.specs.declared.states.Held.{Held}
@@ -39,6 +39,11 @@ module _ {K : Type 0} (h : History K) (leads : K → K → Bool) where
   -- of each box that p hears in round r + 1 what it sends
   unfoldable pub hears_after : ℕ → ℕ → Heard K
   hears_after p r q = cond (hears_of_company h p (suc r) q) (Some (sends_after q r)) None
+
+  -- those of the other boxes numbered below m, in their order
+  unfoldable pub frames_heard : ℕ → ℕ → ℕ → List (Frame K)
+  frames_heard p r zero = []
+  frames_heard p r (suc m) = frames_heard p r m ++ cond (hears_of_company h p (suc r) m && not (m == p)) (sends_after m r ∷ []) []
 
   -- among some frames are those of all other boxes that p hears in round r + 1, and no others but its own
   abbrev pub AreHeard : ℕ → ℕ → List (Frame K) → Type 0

@@ -68,6 +68,14 @@ two_heard = with_fall 1 2 (boxes (3 ∷ [])) (with_fall 1 3 (boxes []) no_falls)
 abbrev pub one_after_another : Falls
 one_after_another = with_fall 1 2 (boxes (3 ∷ [])) (with_fall 2 3 (boxes (0 ∷ 1 ∷ [])) no_falls)
 
+-- box 2 falls in round 1 unheard by boxes 0 and 1, and box 3 in round 2 unheard by box 0
+abbrev pub chain : Falls
+chain = with_fall 1 2 (boxes (0 ∷ 1 ∷ [])) (with_fall 2 3 (boxes (0 ∷ [])) no_falls)
+
+-- box 1 falls in some round unheard by box 0
+abbrev pub other_falls : ℕ → Falls
+other_falls r = with_fall r 1 (boxes (0 ∷ [])) no_falls
+
 -- ---- when a company rings
 
 -- the boxes that close the last round, and those that ring in it on piece x
@@ -92,7 +100,11 @@ Runs =
     × (RingOn (four two_unheard 2) (0 ∷ 1 ∷ []) 20)
     × (RingOn (four two_at_once 2) (0 ∷ 1 ∷ []) 10)
     × (RingOn (four one_after_another 3) (0 ∷ 1 ∷ []) 10)
+    × (RingOn (four two_heard 3) (0 ∷ 1 ∷ []) 10)
+    × (RingOn (four chain 3) (0 ∷ 1 ∷ []) 10)
     × (RingOn (two no_falls 2) (0 ∷ 1 ∷ []) 20)
+    × (RingOn (two (other_falls 2) 2) (0 ∷ []) 20)
+    × (RingOn (two (other_falls 3) 2) (0 ∷ 1 ∷ []) 20)
 
 -- ---- how it comes about
 
@@ -114,16 +126,19 @@ wastes falls = map (waste falls 4) (0 ∷ 1 ∷ 2 ∷ 3 ∷ [])
 abbrev pub horizons : Falls → ℕ → List ℕ
 horizons falls p = map (horizon (four falls 3) p) (1 ∷ 2 ∷ 3 ∷ [])
 
--- the estimates of the boxes 0, 1 and 3 after round r
-abbrev pub estimates : Falls → ℕ → List ℕ
-estimates falls r = map (λ p. (estimate (four falls r) piece_leads p r).number) (0 ∷ 1 ∷ 3 ∷ [])
+-- the estimates of some boxes after round r
+abbrev pub estimates : Falls → ℕ → List ℕ → List ℕ
+estimates falls r = map (λ p. (estimate (four falls r) piece_leads p r).number)
 
 abbrev pub Rounds : Type 0
 Rounds =
     -- box 0 alone misses box 2 in round 1, and in round 2 all know it
     (missed_by one_falls 0 1 ≡ boxes (2 ∷ [])) × (missed_by one_falls 1 1 ≡ boxes [])
     × (known_by one_falls 0 1 ≡ boxes []) × (known_by one_falls 1 2 ≡ boxes (2 ∷ []))
-    × (estimates one_falls 1 ≡ 20 ∷ 10 ∷ 10 ∷ []) × (estimates one_falls 2 ≡ 10 ∷ 10 ∷ 10 ∷ [])
+    × (estimates one_falls 1 (0 ∷ 1 ∷ 3 ∷ []) ≡ 20 ∷ 10 ∷ 10 ∷ []) × (estimates one_falls 2 (0 ∷ 1 ∷ 3 ∷ []) ≡ 10 ∷ 10 ∷ 10 ∷ [])
+    -- box 1 learns of piece 10 in round 2 from box 3, which alone had it, and box 0 in round 3
+    × (missed_by chain 0 2 ≡ boxes (2 ∷ 3 ∷ [])) × (missed_by chain 1 2 ≡ boxes (2 ∷ []))
+    × (estimates chain 1 (0 ∷ 1 ∷ 3 ∷ []) ≡ 20 ∷ 20 ∷ 10 ∷ []) × (estimates chain 2 (0 ∷ 1 ∷ []) ≡ 20 ∷ 10 ∷ []) × (estimates chain 3 (0 ∷ 1 ∷ []) ≡ 10 ∷ 10 ∷ [])
     -- who falls in a round is found missing in it by whom it was not heard
     × (closers (four two_at_once 1) ≡ boxes (0 ∷ 1 ∷ [])) × (found two_at_once 1 ≡ boxes (2 ∷ 3 ∷ [])) × (wastes two_at_once ≡ 0 ∷ 1 ∷ 1 ∷ 1 ∷ [])
     -- where none of these closes the round, only in the next

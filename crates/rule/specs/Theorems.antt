@@ -1,15 +1,31 @@
 -- All ring at once, in every history; and a box follows the rule. Assumes nothing.
-use Rattle.std.specs.Prelude.{◌≡◌, ℕ, suc, ◌<◌, ◌≤◌, Bool, true, false, ◌==◌, List, None, Option, Ok}
+use Rattle.std.specs.Prelude.{◌≡◌, ℕ, suc, ◌+◌, ◌<◌, ◌≤◌, Bool, true, false, not, ◌==◌, List, map, Some, None, Option, Ok, nat_lt}
 use Rattle.sets.specs.declared.set.BoxSet.{BoxSet}
+use Rattle.sets.specs.Masks.{member}
 use Rattle.kinds.specs.Orders.{before}
+use Rattle.frames.specs.Frames.{frame_bytes}
 use Rattle.boxes.specs.declared.states.Resting.{Resting}
 use Rattle.boxes.specs.Boxes.{new_box}
 use Rattle.boxes.specs.Rounds.{open_notes, closing}
 use Rattle.boxes.specs.Rule.{ruled, admits, frames_in, notes_after}
+use Rattle.rule.specs.declared.falls.Fall.{Fall}
 use Rattle.rule.specs.Falls.{Falls, with_fall, past, closes, hears, waste}
 use Rattle.rule.specs.Histories.{History, Allowed, ringing_round, as_of}
 use Rattle.rule.specs.Values.{rings, estimate}
-use Rattle.rule.specs.Boxes.{held_after, sends_after, hears_after, outcome_of, AreHeard}
+use Rattle.rule.specs.Boxes.{held_after, sends_after, hears_after, outcome_of, frames_heard, AreHeard}
+
+-- a box that does not fall closes every round and is heard in it by all
+abbrev pub StandsMean : Type 0
+StandsMean = (falls : Falls) (p q r : ℕ) → falls q ≡ None → (closes falls q r ≡ true) × (hears falls p r q ≡ true)
+
+-- one that falls closes the rounds before that of its fall; others hear it in these, in that of its fall if they are not in its lost set, and
+-- not in later ones
+abbrev pub FallsMean : Type 0
+FallsMean = (falls : Falls) (p q r : ℕ) (f : Fall) → falls q ≡ Some f → (q ≡ p → ⊥)
+    → (closes falls q r ≡ nat_lt r f.round.0)
+    × (r < f.round.0 → hears falls p r q ≡ true)
+    × (r ≡ f.round.0 → hears falls p r q ≡ not (member f.lost p))
+    × (f.round.0 < r → hears falls p r q ≡ false)
 
 module _ {K : Type 0} (h : History K) where
   -- box p of the company closes round r, and rings in it
@@ -35,6 +51,10 @@ module _ {K : Type 0} (h : History K) where
   -- some box of the company closes every round: not all may fall
   abbrev pub SomeRemains : Type 0
   SomeRemains = Allowed h → (p : ℕ) × (p < h.n) × ((r : ℕ) → closes h.falls p r ≡ true)
+
+  -- in some round up to t + 1 all who close it ring, and nobody before
+  abbrev pub CompanyRings : Type 0
+  CompanyRings = Allowed h → (r : ℕ) × (1 ≤ r) × (r ≤ h.t + 1) × QuietBefore r × ((p : ℕ) → p < h.n → closes h.falls p r ≡ true → rings h p r ≡ true)
 
   module _ (leads : K → K → Bool) where
     -- all that ring in the last round have one estimate
@@ -80,6 +100,11 @@ module _ {K : Type 0} (h : History K) (leads : K → K → Bool) where
   BoxFollowsTold size named = Allowed h → (p r : ℕ) → p < h.n → closes h.falls p (suc r) ≡ true
       → (b : Resting K) → b.held ≡ held_after h leads p r → (told : List (List ℕ)) → AreHeard h leads p r (frames_in size named told)
       → closing b.held (notes_after size named leads b.held (open_notes b.held) told) ≡ Ok (outcome_of h leads p (suc r))
+
+  -- and so if it is told what those boxes compose, one after another
+  abbrev pub BoxFollowsSent : ℕ → (List ℕ → Option K) → (K → List ℕ) → Type 0
+  BoxFollowsSent size named image = Allowed h → (p r : ℕ) → p < h.n → closes h.falls p (suc r) ≡ true → (b : Resting K) → b.held ≡ held_after h leads p r
+      → closing b.held (notes_after size named leads b.held (open_notes b.held) (map (frame_bytes image) (frames_heard h leads p r h.n))) ≡ Ok (outcome_of h leads p (suc r))
 
   -- what is still to come does not count: who closed a round, who was heard in it, the waste and the values after it are by the falls up to then
   abbrev pub OnlyPast : Type 0

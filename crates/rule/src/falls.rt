@@ -1,6 +1,6 @@
 // Boxes that fall, and so who closes a round and whom each box hears.
-ghost use Rattle.std.specs.Prelude.{◌≡◌};
-ghost use Rattle.rule.specs.Falls.{lasts, hears};
+ghost use Rattle.std.specs.Prelude.{◌≡◌, ℕ};
+ghost use Rattle.rule.specs.Falls.{closes, hears};
 
 use sets::{BoxNumber, BoxSet, RoundNumber};
 
@@ -12,8 +12,9 @@ pub struct Fall {
 }
 
 // Whether a box closes the round, by its fall if it fell.
+#[tactic(auto, unfolding(crate::specs::Falls::closes))]
 pub fn closes(fall: Option<Fall>, round: RoundNumber) -> bool
-    ensures { result ≡ lasts fall round.0 }
+    ensures { (p : ℕ) → result ≡ closes (λ _. fall) p round.0 }
 {
     match fall {
         None => true,

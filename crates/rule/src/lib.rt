@@ -6,4 +6,4 @@ mod falls;
 mod theorems;
 
 pub use falls::{Fall, closes, hears};
-pub use theorems::{examples_stand, rule_stands};
+pub use theorems::{box_follows, examples_stand, rule_stands};
