@@ -39,23 +39,23 @@ is_some-plus None true x = refl
 is_some-plus None false x = refl
 is_some-plus (Some y) t x = refl
 
-pub is_some-alone : {X : Type 0} (t : Bool) (x : X) → is_some (cond t (Some x) None) ≡ t
-is_some-alone true x = refl
-is_some-alone false x = refl
+pub is_some-when : {X : Type 0} (t : Bool) (x : X) → is_some (cond t (Some x) None) ≡ t
+is_some-when true x = refl
+is_some-when false x = refl
 
-pub tells-alone : {K : Type 0} (t : Bool) (f : Frame K) (i : ℕ) → rule.tells (cond t (Some f) None) i ≡ (t && member f.missing i)
-tells-alone true f i = refl
-tells-alone false f i = refl
+pub tells-when : {K : Type 0} (t : Bool) (f : Frame K) (i : ℕ) → rule.tells (cond t (Some f) None) i ≡ (t && member f.missing i)
+tells-when true f i = refl
+tells-when false f i = refl
 
 -- where t holds, nothing was heard
 tells-plus : {K : Type 0} (o : Option (Frame K)) (t : Bool) (f : Frame K) (i : ℕ) → (t ≡ true → is_some o ≡ false)
     → rule.tells (option_or o (cond t (Some f) None)) i ≡ (rule.tells o i || (t && member f.missing i))
-tells-plus None t f i new = tells-alone t f i
+tells-plus None t f i new = tells-when t f i
 tells-plus (Some g) t f i new = let n = new in grind arith
 
-estimate-alone : {K : Type 0} (t : Bool) (f : Frame K) → estimate_in f.estimate (cond t (Some f) None) ≡ f.estimate
-estimate-alone true f = refl
-estimate-alone false f = refl
+estimate-when : {K : Type 0} (t : Bool) (f : Frame K) → estimate_in f.estimate (cond t (Some f) None) ≡ f.estimate
+estimate-when true f = refl
+estimate-when false f = refl
 
 -- what was heard stays
 pub or_some : {X : Type 0} (o p : Option X) → is_some o ≡ true → option_or o p ≡ o
@@ -75,14 +75,14 @@ module _ {K : Type 0} (leads : K → K → Bool) (total : (x y : K) → (leads x
       let p = b.held.number.0 in
       let f = frame_of b.held in
       record {
-        heard = set_ext _ _ (λ i _. sym (is_some-alone (eqb i p) f));
+        heard = set_ext _ _ (λ i _. sym (is_some-when (eqb i p) f));
         known =
             sym (ap (λ m. record { mask = m }) (mask_of-bit 32 b.held.missing.mask (mask_fits b)))
-            ∙ set_ext _ _ (λ i _. sym (any_ext _ (λ q. eqb q p && member b.held.missing i) b.held.n (λ q _. tells-alone (eqb q p) f i) ∙ any_point p b.held.n (member b.held.missing i) b.placed));
+            ∙ set_ext _ _ (λ i _. sym (any_ext _ (λ q. eqb q p && member b.held.missing i) b.held.n (λ q _. tells-when (eqb q p) f i) ∙ any_point p b.held.n (member b.held.missing i) b.placed));
         first =
             foremost_only leads total transitive antisymmetric (λ q. is_some (alone f q)) (λ q. estimate_in b.held.estimate (alone f q)) b.held.n b.held.estimate
-            (p, b.placed, is_some-alone (eqb p p) f ∙ eq-eqb p p refl, sym (estimate-alone (eqb p p) f))
-            (λ k _ _. ap (leads b.held.estimate) (estimate-alone (eqb k p) f) ∙ ⊎_elim (λ e. e) (λ e. e) (total b.held.estimate b.held.estimate));
+            (p, b.placed, is_some-when (eqb p p) f ∙ eq-eqb p p refl, sym (estimate-when (eqb p p) f))
+            (λ k _ _. ap (leads b.held.estimate) (estimate-when (eqb k p) f) ∙ ⊎_elim (λ e. e) (λ e. e) (total b.held.estimate b.held.estimate));
       }
 
   -- one frame more

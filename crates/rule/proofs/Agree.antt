@@ -7,7 +7,7 @@ use Rattle.kinds.specs.Orders.{before}
 use Rattle.rule.specs.Falls.{closes, waste}
 use Rattle.rule.specs.Histories.{History, Allowed, ringing_round}
 use Rattle.rule.specs.Values.{smallest, best_horizon, rings, estimate}
-use Rattle.rule.specs.Theorems.{RingsIn, QuietBefore, RingsInTheRound, NeverPassed, RingsOnce, RingsOnOne, RingsOnProposal, RingsOnFirst}
+use Rattle.rule.specs.Theorems.{RingsIn, QuietBefore, SomeRemains, CompanyRings, RingsInTheRound, NeverPassed, RingsOnce, RingsOnOne, RingsOnProposal, RingsOnFirst}
 use Rattle.rule.proofs.Rounds.{open_fell}
 use Rattle.rule.proofs.Waste.{waste_few, waste_up, waste_last, rings_when, rings_then, peak, peak_clean, clean_by, lacking_few}
 use Rattle.rule.proofs.Estimates.{Agree, agree_clean, agree_from, estimate_proposed, estimate_leads}
@@ -25,10 +25,10 @@ module _ {K : Type 0} (h : History K) (allowed : Allowed h) where
   unfolding closes
   survives p r e = let f = open_fell (h.falls p) r in grind arith
 
-  pub remains : (p : ℕ) × (p < h.n) × ((r : ℕ) → closes h.falls p r ≡ true)
+  pub remains : SomeRemains h
   remains = by survivor
     where
-      by : (p : ℕ) × (p < h.n) × (is_some (h.falls p) ≡ false) → (p : ℕ) × (p < h.n) × ((r : ℕ) → closes h.falls p r ≡ true)
+      by : (p : ℕ) × (p < h.n) × (is_some (h.falls p) ≡ false) → SomeRemains h
       by (p, l, e) = (p, l, λ r. survives p r e)
 
   -- who rings in a round does so in t + 1 - D, and who closes that round rings in it
@@ -64,21 +64,21 @@ module _ {K : Type 0} (h : History K) (allowed : Allowed h) where
       by (inr under) (inl over) = inl (suc r, omega arith, omega (arith, lacking_few h allowed (suc r)))
       by (inr under) (inr still) = inr still
 
-  pub company_rings : (r : ℕ) × (1 ≤ r) × (r ≤ h.t + 1) × QuietBefore h r × ((p : ℕ) → p < h.n → closes h.falls p r ≡ true → rings h p r ≡ true)
+  pub company_rings : CompanyRings h
   company_rings = by (due_by (h.t + 1))
     where
-      by : DueBy (h.t + 1) → (r : ℕ) × (1 ≤ r) × (r ≤ h.t + 1) × QuietBefore h r × ((p : ℕ) → p < h.n → closes h.falls p r ≡ true → rings h p r ≡ true)
+      by : DueBy (h.t + 1) → CompanyRings h
       by (inl (r, l, d)) =
           (r, omega (arith, waste_few h allowed r), l, λ p k m a. absurd (let e = due_once k r (rings_due p k a) d in omega arith), λ p l c. due_rings p r l c d)
       by (inr under) = absurd (omega arith)
 
-  -- while nobody rang, the round t + 1 - D is still to come
+  -- while nobody rang, the round t + 1 - D is not passed
   not_passed : (r : ℕ) → QuietBefore h r → r + waste h.falls h.n r ≤ h.t + 1
   unfolding waste
   not_passed zero quiet = omega arith
   not_passed (suc r) quiet = by remains (not_passed r (λ q k m. quiet q k (omega arith)))
     where
-      by : (p : ℕ) × (p < h.n) × ((k : ℕ) → closes h.falls p k ≡ true) → r + waste h.falls h.n r ≤ h.t + 1 → suc r + waste h.falls h.n (suc r) ≤ h.t + 1
+      by : SomeRemains h → r + waste h.falls h.n r ≤ h.t + 1 → suc r + waste h.falls h.n (suc r) ≤ h.t + 1
       by (p, l, all) ih =
           let off : Due r → ⊥ = λ d. quiet p r (omega arith) (l, all r, due_rings p r l (all r) d) in
           let few = lacking_few h allowed (suc r) in

@@ -39,7 +39,7 @@ module _ {K : Type 0} (h : History K) where
         let same = clean x m in
         grind arith
 
-  -- where everyone of those who closed the round before is heard, and one of them missed q, q is known missing
+  -- whom a box that is heard missed is known missing
   missed_known : (p r x q : ℕ) → x < h.n → hears h.falls p (suc r) x ≡ true → missed h x r q ≡ true → known h p (suc r) q ≡ true
   unfolding known
   missed_known p r x q m a b = any_from (λ x. hears h.falls p (suc r) x && missed h x r q) h.n x m (grind arith)

@@ -16,7 +16,7 @@ use Rattle.boxes.specs.Boxes.{new_box}
 use Rattle.boxes.specs.Rounds as box
 use Rattle.boxes.specs.Rounds.{bad_set, closed_with, Outcome, rests, rings}
 use Rattle.boxes.specs.Rule.{admits, estimate_in, first_heard, not_heard, told_missing, ruled}
-use Rattle.boxes.proofs.Shown.{is_some-alone, tells-alone}
+use Rattle.boxes.proofs.Shown.{is_some-when, tells-when}
 use Rattle.rule.specs.Falls.{closes, hears, found_missing}
 use Rattle.rule.specs.Histories.{History, Allowed}
 use Rattle.rule.specs.Values.{missed, known, estimate}
@@ -114,7 +114,7 @@ module _ {K : Type 0} (h : History K) (leads : K → K → Bool) (allowed : Allo
   module _ (p r : ℕ) where
     not_heard_is : not_heard (held_after h leads p r) (hears_after h leads p r) ≡ missing_set p (suc r)
     unfolding held_after hears_after missed
-    not_heard_is = set_ext _ _ (λ i _. let s = is_some-alone (hears_of_company h p (suc r) i) (sends_after h leads i r) in grind arith)
+    not_heard_is = set_ext _ _ (λ i _. let s = is_some-when (hears_of_company h p (suc r) i) (sends_after h leads i r) in grind arith)
 
     -- the boxes that p knows missing by round r + 1, as a set
     abbrev known_set : BoxSet
@@ -127,7 +127,7 @@ module _ {K : Type 0} (h : History K) (leads : K → K → Bool) (allowed : Allo
     unfolding held_after hears_after known
     told_is = set_ext _ _ (λ i _.
         any_ext _ (λ q. ltb i h.n && (hears h.falls p (suc r) q && missed h q r i)) h.n (λ q l.
-        let s = tells-alone (hears_of_company h p (suc r) q) (sends_after h leads q r) i in
+        let s = tells-when (hears_of_company h p (suc r) q) (sends_after h leads q r) i in
         let m = missing_is q r i in
         grind (arith, nat_tests))
         ∙ any-and (ltb i h.n) (λ q. hears h.falls p (suc r) q && missed h q r i) h.n)
@@ -140,8 +140,8 @@ module _ {K : Type 0} (h : History K) (leads : K → K → Bool) (allowed : Allo
     unfolding held_after hears_after estimate
     first_is = ap (λ o. unwrap_or o (estimate h leads p r)) (foremost_ext leads
         (λ q. is_some (hears_after h leads p r q)) (hears h.falls p (suc r)) _ (λ q. estimate h leads q r) h.n
-        (λ q l. let s = is_some-alone (hears_of_company h p (suc r) q) (sends_after h leads q r) in grind (arith, nat_tests))
-        (λ q _ e. estimate_in-when (hears_of_company h p (suc r) q) _ (sends_after h leads q r) (sym (is_some-alone (hears_of_company h p (suc r) q) (sends_after h leads q r)) ∙ e)))
+        (λ q l. let s = is_some-when (hears_of_company h p (suc r) q) (sends_after h leads q r) in grind (arith, nat_tests))
+        (λ q _ e. estimate_in-when (hears_of_company h p (suc r) q) _ (sends_after h leads q r) (sym (is_some-when (hears_of_company h p (suc r) q) (sends_after h leads q r)) ∙ e)))
 
     module _ (l : p < h.n) (c : closes h.falls p (suc r) ≡ true) where
       -- who is known missing closed no round since, and is not heard

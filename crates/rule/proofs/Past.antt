@@ -6,17 +6,13 @@ use Rattle.sets.specs.Tests.{any, count}
 use Rattle.sets.specs.Masks.{set_of}
 use Rattle.kinds.specs.Orders.{foremost}
 use Rattle.rule.specs.declared.falls.Fall.{Fall}
-use Rattle.rule.specs.Falls.{Falls, with_fall, past, fell_before, fell_in, fell_unheard, closes, hears, found_missing, waste}
+use Rattle.rule.specs.Falls.{Falls, with_fall, so_far, past, fell_before, fell_in, fell_unheard, closes, hears, found_missing, waste}
 use Rattle.rule.specs.Histories.{History, as_of}
 use Rattle.rule.specs.Values.{missed, known, smallest, best_horizon, estimate}
 use Rattle.rule.specs.Boxes.{held_after}
 use Rattle.rule.specs.Theorems.{OnlyPast, FallToCome}
 
 -- ---- one box
-
--- its fall, if it is of a round up to s
-abbrev so_far : ℕ → Option Fall → Option Fall
-so_far s o = cond (fell_before o (suc s)) o None
 
 -- what holds of no fall as of one still to come, holds of the fall so far
 same_so_far : {X : Type 0} (g : Option Fall → X) (s : ℕ) (o : Option Fall) → (fell_before o (suc s) ≡ false → g None ≡ g o) → g (so_far s o) ≡ g o

@@ -18,7 +18,7 @@ fell_once : (o : Option Fall) (r : ℕ) → fell_before o r ≡ true → fell_in
 fell_once None r e = refl
 fell_once (Some f) r e = grind (arith, nat_tests)
 
--- who closes no round has fallen
+-- who does not close a round falls
 pub open_fell : (o : Option Fall) (r : ℕ) → lasts o r ≡ false → is_some o ≡ true
 open_fell None r e = absurd (grind arith)
 open_fell (Some f) r e = refl

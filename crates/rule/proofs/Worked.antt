@@ -31,7 +31,7 @@ runs = (
 
 pub rounds : Rounds
 unfolding any count bit mask_of foremost closes hears found_missing waste missed known estimate
-rounds = (refl, refl, refl, refl, refl, refl, refl, refl, refl, refl, refl, refl, refl, refl, refl, refl, refl)
+rounds = (refl, refl, refl, refl, refl, refl, refl, refl, refl, refl, refl, refl, refl, refl, refl, refl, refl, refl, refl, refl, refl)
 
 pub nearly_right : NearlyRight
 unfolding any count bit mask_of closes hears missed known smallest

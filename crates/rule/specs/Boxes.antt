@@ -28,7 +28,7 @@ module _ {K : Type 0} (h : History K) (leads : K → K → Bool) where
     horizon = record { 0 = best_horizon h p r };
   }
 
-  -- what it sends in the round after: its number, its missing set and its estimate
+  -- what it sends in the round after: that round, its number, its missing set and its estimate
   abbrev pub sends_after : ℕ → ℕ → Frame K
   sends_after p r = frame_of (held_after p r)
 
@@ -40,7 +40,7 @@ module _ {K : Type 0} (h : History K) (leads : K → K → Bool) where
   unfoldable pub hears_after : ℕ → ℕ → Heard K
   hears_after p r q = cond (hears_of_company h p (suc r) q) (Some (sends_after q r)) None
 
-  -- those of the other boxes numbered below m, in their order
+  -- what the other boxes below m that p hears in round r + 1 send in it, by number
   unfoldable pub frames_heard : ℕ → ℕ → ℕ → List (Frame K)
   frames_heard p r zero = []
   frames_heard p r (suc m) = frames_heard p r m ++ cond (hears_of_company h p (suc r) m && not (m == p)) (sends_after m r ∷ []) []

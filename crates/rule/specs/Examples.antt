@@ -133,16 +133,16 @@ estimates falls r = map (λ p. (estimate (four falls r) piece_leads p r).number)
 abbrev pub Rounds : Type 0
 Rounds =
     -- box 0 alone misses box 2 in round 1, and in round 2 all know it
-    (missed_by one_falls 0 1 ≡ boxes (2 ∷ [])) × (missed_by one_falls 1 1 ≡ boxes [])
-    × (known_by one_falls 0 1 ≡ boxes []) × (known_by one_falls 1 2 ≡ boxes (2 ∷ []))
+    (missed_by one_falls 0 1 ≡ boxes (2 ∷ [])) × (missed_by one_falls 1 1 ≡ boxes []) × (missed_by one_falls 3 1 ≡ boxes [])
+    × (known_by one_falls 0 1 ≡ boxes []) × (known_by one_falls 0 2 ≡ boxes (2 ∷ [])) × (known_by one_falls 1 2 ≡ boxes (2 ∷ [])) × (known_by one_falls 3 2 ≡ boxes (2 ∷ []))
     × (estimates one_falls 1 (0 ∷ 1 ∷ 3 ∷ []) ≡ 20 ∷ 10 ∷ 10 ∷ []) × (estimates one_falls 2 (0 ∷ 1 ∷ 3 ∷ []) ≡ 10 ∷ 10 ∷ 10 ∷ [])
     -- box 1 learns of piece 10 in round 2 from box 3, which alone had it, and box 0 in round 3
     × (missed_by chain 0 2 ≡ boxes (2 ∷ 3 ∷ [])) × (missed_by chain 1 2 ≡ boxes (2 ∷ []))
     × (estimates chain 1 (0 ∷ 1 ∷ 3 ∷ []) ≡ 20 ∷ 20 ∷ 10 ∷ []) × (estimates chain 2 (0 ∷ 1 ∷ []) ≡ 20 ∷ 10 ∷ []) × (estimates chain 3 (0 ∷ 1 ∷ []) ≡ 10 ∷ 10 ∷ [])
-    -- who falls in a round is found missing in it by whom it was not heard
+    -- who falls in a round is found missing in it if a box that closes it did not hear it
     × (closers (four two_at_once 1) ≡ boxes (0 ∷ 1 ∷ [])) × (found two_at_once 1 ≡ boxes (2 ∷ 3 ∷ [])) × (wastes two_at_once ≡ 0 ∷ 1 ∷ 1 ∷ 1 ∷ [])
     -- where none of these closes the round, only in the next
-    × (found two_heard 1 ≡ boxes []) × (found two_heard 2 ≡ boxes (2 ∷ 3 ∷ [])) × (wastes two_heard ≡ 0 ∷ 0 ∷ 0 ∷ 0 ∷ [])
+    × (closers (four two_heard 1) ≡ boxes (0 ∷ 1 ∷ [])) × (found two_heard 1 ≡ boxes []) × (found two_heard 2 ≡ boxes (2 ∷ 3 ∷ [])) × (wastes two_heard ≡ 0 ∷ 0 ∷ 0 ∷ 0 ∷ [])
 
 -- ---- nearly right
 
@@ -167,7 +167,7 @@ NearlyRight =
     -- box 0 rings and box 1 does not
     (rings_by missed_now_too (four two_at_once 1) 0 ≡ true) × (rings_by missed_now_too (four two_at_once 1) 1 ≡ false)
     × (rings_by own_only (four two_at_once 2) 0 ≡ true) × (rings_by own_only (four two_at_once 2) 1 ≡ false)
-    -- nobody rings
+    -- nobody rings up to round t + 1
     × (horizons one_unheard 0 ≡ 3 ∷ 3 ∷ 4 ∷ []) × (horizons one_unheard 1 ≡ 3 ∷ 3 ∷ 4 ∷ []) × (horizons one_unheard 3 ≡ 3 ∷ 3 ∷ 4 ∷ [])
     × (silent_by_last (four one_unheard 3) ≡ true)
 

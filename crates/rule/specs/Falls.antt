@@ -31,9 +31,13 @@ abbrev pub fell_unheard : Option Fall → ℕ → ℕ → Bool
 fell_unheard None r p = false
 fell_unheard (Some f) r p = f.round.0 == r && member f.lost p
 
+-- its fall, if it is of a round up to s
+abbrev pub so_far : ℕ → Option Fall → Option Fall
+so_far s fall = cond (fell_before fall (suc s)) fall None
+
 -- the falls of the rounds up to s
 abbrev pub past : ℕ → Falls → Falls
-past s falls q = cond (fell_before (falls q) (suc s)) (falls q) None
+past s falls q = so_far s (falls q)
 
 -- it fell neither before round r nor in it: the box closes the round
 abbrev pub lasts : Option Fall → ℕ → Bool

@@ -1,4 +1,4 @@
--- All ring at once, in every history; and a box follows the rule. Assumes nothing.
+-- What falls mean; that all ring at once, in every history; that a box follows the rule; that what is to come does not count. Assumes nothing.
 use Rattle.std.specs.Prelude.{◌≡◌, ℕ, suc, ◌+◌, ◌<◌, ◌≤◌, Bool, true, false, not, ◌==◌, List, map, Some, None, Option, Ok, nat_lt}
 use Rattle.sets.specs.declared.set.BoxSet.{BoxSet}
 use Rattle.sets.specs.Masks.{member}
@@ -50,11 +50,11 @@ module _ {K : Type 0} (h : History K) where
 
   -- some box of the company closes every round: not all may fall
   abbrev pub SomeRemains : Type 0
-  SomeRemains = Allowed h → (p : ℕ) × (p < h.n) × ((r : ℕ) → closes h.falls p r ≡ true)
+  SomeRemains = (p : ℕ) × (p < h.n) × ((r : ℕ) → closes h.falls p r ≡ true)
 
   -- in some round up to t + 1 all who close it ring, and nobody before
   abbrev pub CompanyRings : Type 0
-  CompanyRings = Allowed h → (r : ℕ) × (1 ≤ r) × (r ≤ h.t + 1) × QuietBefore r × ((p : ℕ) → p < h.n → closes h.falls p r ≡ true → rings h p r ≡ true)
+  CompanyRings = (r : ℕ) × (1 ≤ r) × (r ≤ h.t + 1) × QuietBefore r × ((p : ℕ) → p < h.n → closes h.falls p r ≡ true → rings h p r ≡ true)
 
   module _ (leads : K → K → Bool) where
     -- all that ring in the last round have one estimate
@@ -94,8 +94,8 @@ module _ {K : Type 0} (h : History K) (leads : K → K → Bool) where
   BoxFollows = Allowed h → (p r : ℕ) → p < h.n → closes h.falls p (suc r) ≡ true
       → ruled leads (held_after h leads p r) (hears_after h leads p r) ≡ Ok (outcome_of h leads p (suc r))
 
-  -- the same of a box at rest that is told byte strings: the frames among them are those, and no others but its own. What else they are, and
-  -- in which order they come, does not count
+  -- the same of a box at rest that is told byte strings: the frames among them are those, and no others but its own. Strings that
+  -- are no frame, and the order, do not count
   abbrev pub BoxFollowsTold : ℕ → (List ℕ → Option K) → Type 0
   BoxFollowsTold size named = Allowed h → (p r : ℕ) → p < h.n → closes h.falls p (suc r) ≡ true
       → (b : Resting K) → b.held ≡ held_after h leads p r → (told : List (List ℕ)) → AreHeard h leads p r (frames_in size named told)

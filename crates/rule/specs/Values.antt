@@ -16,7 +16,7 @@ module _ {K : Type 0} (h : History K) where
   missed p zero q = false
   missed p (suc r) q = not (hears h.falls p (suc r) q)
 
-  -- the boxes that p knows to be missing by round r: those in the sets sent to it in that round, its own among them. These are the
+  -- the boxes that p knows to be missing by round r: those in the sets that it hears in that round, its own among them. These are the
   -- missing sets of the round before
   unfoldable pub known : ℕ → ℕ → ℕ → Bool
   known p zero q = false

@@ -1,6 +1,6 @@
 // What holds of every run by the rule, on the contract of a function; what the function returns is of no meaning.
 ghost use Rattle.std.specs.Prelude.{◌≡◌};
-ghost use Rattle.rule.specs.Histories.{History};
+ghost use Rattle.rule.specs.Histories.{History, Allowed};
 ghost use Rattle.rule.specs.Examples.{Examples};
 ghost use Rattle.rule.specs.Theorems.{StandsMean, FallsMean, Agreement, CompanyRings, SomeRemains, BoxBegins, BoxRests, BoxAdmits, BoxFollows, BoxFollowsTold, BoxFollowsSent, OnlyPast, FallToCome};
 
@@ -14,16 +14,17 @@ pub fn rule_stands<K: Kind>() -> u8
     ensures stands { StandsMean }
     ensures falls { FallsMean }
     ensures agree { (h : History K) → Agreement h K.leads }
-    ensures comes { (h : History K) → CompanyRings h }
-    ensures remains { (h : History K) → SomeRemains h }
+    ensures comes { (h : History K) → Allowed h → CompanyRings h }
+    ensures remains { (h : History K) → Allowed h → SomeRemains h }
     ensures past { (h : History K) → OnlyPast h K.leads }
     ensures coming { FallToCome }
 {
     0
 }
 
-// A box of the crate `boxes` follows the rule, for every history that keeps the limits: a new one, and one at rest, holds the rule's values; told
-// the frames of the boxes that it hears in a round, and no others, it closes the round to the rule's values.
+// A box of the crate `boxes` follows the rule, for every history that keeps the limits: a new one holds the rule's values, and while a box has
+// not rung there is one at rest that holds them; told the frames of the boxes that it hears in a round, and no others, it closes the
+// round to the rule's values.
 pub fn box_follows<K: Kind>() -> u8
     ensures zero { result ≡ 0 }
     ensures begins { (h : History K) → BoxBegins h K.leads }
