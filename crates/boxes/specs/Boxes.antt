@@ -10,12 +10,13 @@ use Rattle.sets.specs.Masks.{set_of}
 use Rattle.frames.specs.declared.frame.Frame.{Frame}
 use Rattle.boxes.specs.declared.states.Held.{Held}
 
--- a new box: it has closed no round, holds its own proposal and misses nobody
+-- what a new box holds: it has closed no round, has its own proposal for its estimate and misses nobody
+abbrev pub first_held : {K : Type 0} → BoxNumber → ℕ → ℕ → K → Held K
+first_held number n t proposal = record { number = number; n = n; t = t; closed = 0; estimate = proposal; missing = set_of (λ _. false); horizon = record { 0 = t + 1 } }
+
+-- making one
 abbrev pub new_box : {K : Type 0} → BoxNumber → ℕ → ℕ → K → Result (Held K) Refusal
-new_box number n t proposal =
-    unless
-    ((not (company n t), Company) ∷ (nat_le n number.0, Stranger) ∷ [])
-    (record { number = number; n = n; t = t; closed = 0; estimate = proposal; missing = set_of (λ _. false); horizon = record { 0 = t + 1 } })
+new_box number n t proposal = unless ((not (company n t), Company) ∷ (nat_le n number.0, Stranger) ∷ []) (first_held number n t proposal)
 
 -- the round that a box opens next, or has open
 abbrev pub next_round : {K : Type 0} → Held K → RoundNumber

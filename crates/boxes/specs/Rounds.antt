@@ -103,12 +103,16 @@ advanced b N F estimate = record {
   horizon = record { 0 = best_horizon b F };
 }
 
+-- what becomes of it in that round: it rings on the estimate if the round is its best horizon, and rests if not
+abbrev pub outcome_with : {K : Type 0} → Held K → (N F : BoxSet) → K → Outcome K
+outcome_with b N F estimate = cond (best_horizon b F == (next_round b).0) (rings (next_round b) estimate) (rests (advanced b N F estimate))
+
 -- how it closes that round: the tally is refused where N has more than t boxes, or F one that is not in N
 unfoldable pub closed_with : {K : Type 0} → Held K → (N F : BoxSet) → K → Result (Outcome K) Refusal
 closed_with b N F estimate =
     unless
     ((nat_lt b.t (count (member N) 32) || any (λ i. member F i && not (member N i)) 32, refusal.Tally) ∷ [])
-    (cond (best_horizon b F == (next_round b).0) (rings (next_round b) estimate) (rests (advanced b N F estimate)))
+    (outcome_with b N F estimate)
 
 -- the boxes of the company that were not heard
 abbrev pub unheard : {K : Type 0} → Held K → Notes K → BoxSet

@@ -13,7 +13,7 @@ use Rattle.frames.specs.Frames.{read_frame}
 use Rattle.boxes.specs.declared.states.Held.{Held}
 use Rattle.boxes.specs.declared.states.Notes.{Notes}
 use Rattle.boxes.specs.Boxes.{next_round, frame_of}
-use Rattle.boxes.specs.Rounds.{bad_set, hearing, Outcome, closed_with}
+use Rattle.boxes.specs.Rounds.{bad_set, hearing, Outcome, outcome_with, closed_with}
 
 -- the frames heard in a round: of each box its frame, or none
 abbrev pub Heard : Type 0 → Type 0
@@ -43,6 +43,10 @@ module _ {K : Type 0} (b : Held K) (h : Heard K) where
 -- what the rule says of a box that heard these frames in its next round, its own among them
 unfoldable pub ruled : {K : Type 0} → (K → K → Bool) → Held K → Heard K → Result (Outcome K) Refusal
 ruled leads b h = closed_with b (not_heard b h) (told_missing b h) (unwrap_or (first_heard b h leads) b.estimate)
+
+-- what becomes of it then, where the tally is not refused
+unfoldable pub ruled_outcome : {K : Type 0} → (K → K → Bool) → Held K → Heard K → Outcome K
+ruled_outcome leads b h = outcome_with b (not_heard b h) (told_missing b h) (unwrap_or (first_heard b h leads) b.estimate)
 
 -- that the box may hear the frame in its next round
 unfoldable pub admits : {K : Type 0} → Held K → Frame K → Bool
