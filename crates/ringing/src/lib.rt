@@ -1,0 +1,6 @@
+// x
+#![tactic(auto)]
+
+mod ringing;
+
+pub use ringing::Ringing;

@@ -1,0 +1,51 @@
+-- What stands at a place of a row, by what a box there holds, and what is told of it. Assumes nothing.
+use Rattle.std.specs.Prelude.{ℕ, List, codes, Some, None, Option}
+use Rattle.sets.specs.declared.labels.RoundNumber.{RoundNumber}
+use Rattle.boxes.specs.declared.states.Held.{Held}
+use Rattle.rows.specs.declared.place.Blow.{Blow}
+use Rattle.rows.specs.declared.place.Blow.TheVariants as blow
+use Rattle.rows.specs.declared.place.Rung.{Rung}
+use Rattle.rows.specs.declared.place.Place.{Place}
+use Rattle.rows.specs.declared.place.Place.TheVariants as place
+use Rattle.rows.specs.declared.place.Standing.{Standing}
+use Rattle.rows.specs.declared.place.Standing.TheVariants as standing
+
+-- a box at rest with what it holds, one that is down since a round, or one that rings
+pub data Stand (K : Type 0) : Type 0 where
+  at_rest : Held K → Stand K
+  down : RoundNumber → Stand K
+  rung : Rung K → Stand K
+
+abbrev pub shown : {K : Type 0} → Place K → Stand K
+shown (place.Resting b) = at_rest b.held
+shown (place.Down r) = down r
+shown (place.Rung x) = rung x
+
+-- what is told of it
+abbrev pub standing_of : {K : Type 0} → Stand K → Standing K
+standing_of (at_rest b) = standing.Up
+standing_of (down r) = standing.Down r
+standing_of (rung x) = standing.Rung x
+
+-- ---- word, round and proposal of what is told
+
+abbrev pub blow_word : Blow → List ℕ
+blow_word blow.Rings = codes "rings"
+blow_word blow.Out = codes "out"
+blow_word blow.Struck = codes "struck"
+blow_word blow.Missed = codes "missed"
+
+abbrev pub standing_word : {K : Type 0} → Standing K → List ℕ
+standing_word standing.Up = codes "up"
+standing_word (standing.Down r) = codes "down"
+standing_word (standing.Rung x) = blow_word x.blow
+
+abbrev pub round_of : {K : Type 0} → Standing K → Option RoundNumber
+round_of standing.Up = None
+round_of (standing.Down r) = Some r
+round_of (standing.Rung x) = Some x.round
+
+abbrev pub proposal_of : {K : Type 0} → Standing K → Option K
+proposal_of standing.Up = None
+proposal_of (standing.Down r) = None
+proposal_of (standing.Rung x) = Some x.proposal

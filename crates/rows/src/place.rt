@@ -1,0 +1,105 @@
+// A row has a place for each box of a company. What stands at a place, and what is told of it.
+ghost use Rattle.std.specs.Prelude.{◌≡◌, codes};
+ghost use Rattle.rows.specs.Places.{shown, standing_of, standing_word, round_of, proposal_of};
+
+use boxes::Resting;
+use sets::RoundNumber;
+
+// How far the blow of a box that rings has come: none was drawn yet; it is out, that is, its strike order was drawn; it was
+// struck; it was missed.
+#[derive(Clone, Copy, Debug, PartialEq, Eq)]
+pub enum Blow {
+    Rings,
+    Out,
+    Struck,
+    Missed,
+}
+
+// A box that rings: in which round, on which proposal, and how far its blow has come.
+#[derive(Clone, Copy, Debug, PartialEq, Eq)]
+pub struct Rung<K> {
+    pub round: RoundNumber,
+    pub proposal: K,
+    pub blow: Blow,
+}
+
+// What stands at the place of a box.
+#[derive(Debug, PartialEq, Eq)]
+#[derive_where(Clone, Copy; K: Copy)]
+pub enum Place<K> {
+    // The box, at rest between two rounds.
+    Resting(Resting<K>),
+    // The box is down since this round.
+    Down(RoundNumber),
+    Rung(Rung<K>),
+}
+
+// What is told of a box.
+#[derive(Clone, Copy, Debug, PartialEq, Eq)]
+pub enum Standing<K> {
+    // It is up, falling or not, and does not ring.
+    Up,
+    Down(RoundNumber),
+    Rung(Rung<K>),
+}
+
+impl<K: Copy> Place<K> {
+    pub fn standing(self) -> Standing<K>
+        ensures { result ≡ standing_of (shown self) }
+    {
+        match self {
+            Place::Resting(_) => Standing::Up,
+            Place::Down(round) => Standing::Down(round),
+            Place::Rung(rung) => Standing::Rung(rung),
+        }
+    }
+}
+
+impl<K: Copy> Standing<K> {
+    // The word for it.
+    pub fn word(self) -> &'static str
+        ensures { result.now ≡ standing_word self }
+    {
+        match self {
+            Standing::Up => "up",
+            Standing::Down(_) => "down",
+            Standing::Rung(rung) => rung.blow.word(),
+        }
+    }
+
+    // The round in which the box fell or rings.
+    pub fn round(self) -> Option<RoundNumber>
+        ensures { result ≡ round_of self }
+    {
+        match self {
+            Standing::Up => None,
+            Standing::Down(round) => Some(round),
+            Standing::Rung(rung) => Some(rung.round),
+        }
+    }
+
+    // The proposal on which the box rings.
+    pub fn proposal(self) -> Option<K>
+        ensures { result ≡ proposal_of self }
+    {
+        match self {
+            Standing::Up | Standing::Down(_) => None,
+            Standing::Rung(rung) => Some(rung.proposal),
+        }
+    }
+}
+
+impl Blow {
+    ghost use Rattle.rows.specs.Places.{blow_word};
+
+    fn word(self) -> &'static str
+        ensures { result.now ≡ blow_word self }
+    {
+        match self {
+            Blow::Rings => "rings",
+            Blow::Out => "out",
+            Blow::Struck => "struck",
+            Blow::Missed => "missed",
+        }
+    }
+}
