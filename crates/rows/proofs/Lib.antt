@@ -1,1 +1,3 @@
 mod Numbered
+mod Checked
+mod Rounds

@@ -13,6 +13,12 @@ list_ext [] (y ∷ ys) e = absurd (let a = e 0 in grind arith)
 list_ext (x ∷ xs) [] e = absurd (let a = e 0 in grind arith)
 list_ext (x ∷ xs) (y ∷ ys) e = let a : Some x ≡ Some y = e 0 in let b : x ≡ y = cc in λ j. b j ∷ list_ext xs ys (λ p. e (suc p)) j
 
+-- below the length there is one
+pub get_some : {X : Type 0} (xs : List X) (p : ℕ) → p < length xs → (x : X) × (slice_get xs p ≡ Some x)
+get_some [] p l = absurd (omega arith)
+get_some (x ∷ xs) zero l = (x, refl)
+get_some (x ∷ xs) (suc p) l = get_some xs p (omega arith)
+
 module _ {X : Type 0} (f : ℕ → X) where
   ranged : (a n p : ℕ) → slice_get (map f (range_with_len a n)) p ≡ cond (ltb p n) (Some (f (a + p))) None
   ranged a zero p = ap (λ t. cond t (Some (f (a + p))) None) (let e : false ≡ ltb p 0 = grind (arith, nat_tests) in e)

@@ -1,0 +1,169 @@
+-- A round of a checked row: nothing is refused in it. Assumes nothing.
+use Rattle.std.proofs.Common.{◌≡◌, ℕ, zero, suc, ◌+◌, ◌^◌, ◌<◌, ◌≤◌, Bool, true, false, not, ◌&&◌, ◌||◌, cond, eqb, leb, ltb, ◌⊎◌, List, [], ◌∷◌, length, map, is_some, Some, None, Ok, Option, option_map, unwrap_or, sym, refl, ap, ◌∙◌, subst, inl, inr, arith}
+use Rattle.std.specs.List.{slice_get}
+use Rattle.std.specs.Bool.{⊤}
+use Rattle.std.specs.Result.{result_map_both}
+use Rattle.std.proofs.lemmas.Bool.Decides.{nat_tests}
+use Rattle.std.proofs.lemmas.Option.{slice_get-map, slice_get_within, slice_get_cases}
+use Rattle.numbers.specs.declared.refusal.Refusal.TheVariants as refusal
+use Rattle.numbers.specs.Refusals.{unless}
+use Rattle.sets.specs.declared.set.BoxSet.{BoxSet}
+use Rattle.sets.specs.Companies.{company}
+use Rattle.sets.specs.Tests.{any, count}
+use Rattle.sets.specs.Masks.{member, set_of}
+use Rattle.sets.proofs.Counts.{any_none, any_has, none_any, count_le}
+use Rattle.sets.proofs.Members.{member_below, member_is, company_member, company_count}
+use Rattle.frames.specs.declared.frame.Frame.{Frame}
+use Rattle.frames.specs.Frames.{frame_bytes}
+use Rattle.boxes.specs.declared.states.Held.{Held}
+use Rattle.boxes.specs.declared.states.Notes.{Notes}
+use Rattle.boxes.specs.declared.states.Resting.{Resting}
+use Rattle.boxes.specs.Boxes.{frame_of}
+use Rattle.boxes.specs.Rounds.{refused, noted, hearing, outcome_with, closed_with}
+use Rattle.boxes.specs.Rule.{Heard, tells, first_heard, not_heard, told_missing, ruled, ruled_outcome}
+use Rattle.boxes.specs.Theorems.{FrameShort, ComposedHeard}
+use Rattle.wire.specs.Kept.{is_postable}
+use Rattle.wire.specs.Meaning.{Meaning, WellFormed, is_lost}
+use Rattle.rows.specs.declared.place.Place.{Place}
+use Rattle.rows.specs.Places.{Stand, at_rest, down, rung, shown}
+use Rattle.rows.specs.Calls.{State, is_gone, gone, is_other, misplaced, bad_row, has_rung, over, frame_at, sent, hears_on, heard_by}
+use Rattle.rows.specs.Theorems.{Goes, RoundGoes}
+use Rattle.rows.proofs.Numbered.{none_numbered, list_none, get_some}
+use Rattle.rows.proofs.Checked.{Rests, places, few_gone, fits, rests_at}
+
+-- a frame that is sent is that of a box at rest there
+pub sent_by : {K : Type 0} (o : Option (Stand K)) (f : Frame K) → frame_at o ≡ Some f → (b : Held K) × (o ≡ Some (at_rest b)) × (f ≡ frame_of b)
+sent_by None f e = absurd (grind arith)
+sent_by (Some (at_rest b)) f e = (b, refl, cc)
+sent_by (Some (down r)) f e = absurd (grind arith)
+sent_by (Some (rung x)) f e = absurd (grind arith)
+
+pub when_some : {X : Type 0} (t : Bool) (o : Option X) (x : X) → cond t o None ≡ Some x → (t ≡ true) × (o ≡ Some x)
+when_some true o x e = (refl, e)
+when_some false o x e = absurd (grind arith)
+
+is_lost_by : (m : Meaning) (p q : ℕ) → is_lost m p q ≡ true → is_some (m.lost q) ≡ true
+is_lost_by m p q e = by (m.lost q) refl
+  where
+    by : (o : Option BoxSet) → m.lost q ≡ o → is_some (m.lost q) ≡ true
+    by None is = absurd (grind arith)
+    by (Some s) is = ap is_some is
+
+module _ {K : Type 0} (leads : K → K → Bool) (s : State K) (row : List (Place K)) (is : s.row ≡ map shown row) (formed : WellFormed s.wire)
+    (good : bad_row s ≡ false) (still : over s ≡ false) where
+  -- what a box that is up has at its place
+  pub up_rests : (q : ℕ) → member s.wire.up q ≡ true → (b : Held K) × (slice_get s.row q ≡ Some (at_rest b))
+  up_rests q up = by (slice_get s.row q) refl
+    where
+      l : q < s.wire.n
+      l = member_below s.wire.n s.wire.up q formed.up_within up
+
+      by : (o : Option (Stand K)) → slice_get s.row q ≡ o → (b : Held K) × (slice_get s.row q ≡ Some (at_rest b))
+      by None e = absurd (let n = places s row is good in let g = get_some s.row q (omega (arith, n, l)) in let h = g.1 in grind arith)
+      by (Some (at_rest b)) e = (b, e)
+      by (Some (down r)) e = absurd (let f = fits s row is good q (down r) e in grind arith)
+      by (Some (rung x)) e = absurd (let f = list_none has_rung s.row still q (rung x) e in grind arith)
+
+  -- whom a box hears, and what
+  pub heard_from : (p q : ℕ) (f : Frame K) → heard_by s p q ≡ Some f → (hears_on s.wire p q ≡ true) × ((b : Held K) × (slice_get s.row q ≡ Some (at_rest b)) × (f ≡ frame_of b))
+  heard_from p q f e = let w = when_some (hears_on s.wire p q) (sent s q) f e in (w.0, sent_by (slice_get s.row q) f w.1)
+
+  pub heard_some : (p q : ℕ) → is_some (heard_by s p q) ≡ hears_on s.wire p q
+  heard_some p q = by (hears_on s.wire p q) refl
+    where
+      at_last : (b : Held K) × (slice_get s.row q ≡ Some (at_rest b)) → is_some (sent s q) ≡ true
+      at_last (b, at) = ap (λ o. is_some (frame_at o)) at
+
+      by : (t : Bool) → hears_on s.wire p q ≡ t → is_some (cond t (sent s q) None) ≡ t
+      by false e = refl
+      by true e = at_last (up_rests q (grind arith))
+
+  module _ (p : ℕ) (b : Held K) (at : slice_get s.row p ≡ Some (at_rest b)) where
+    r : Rests s p b
+    r = rests_at s row is good p b at
+
+    not_heard_gone : (q : ℕ) → q < b.n → is_some (heard_by s p q) ≡ false → is_gone s.wire q ≡ true
+    not_heard_gone q l e =
+        let h = heard_some p q in
+        let k = is_lost_by s.wire p q in
+        grind arith
+
+    few : b.n ≤ 32
+    few = let size = formed.size in let n = r.n in grind (arith, nat_tests)
+
+    -- who is told missing is not up, and so is not heard
+    told_inside : (i : ℕ) → i < 32 → (member (told_missing b (heard_by s p)) i && not (member (not_heard b (heard_by s p)) i)) ≡ false
+    told_inside i l =
+        let told = member_is (λ i. any (λ q. tells (heard_by s p q) i) b.n) (told_missing b (heard_by s p)) refl i l in
+        let other = company_member b.n (λ i. not (is_some (heard_by s p i))) few i in
+        let heard = heard_some p i in
+        let f : any (λ q. tells (heard_by s p q) i) b.n ≡ true → (i < b.n) × (member s.wire.up i ≡ false) = λ e. by_one (any_has (λ q. tells (heard_by s p q) i) b.n e) in
+        grind (arith, nat_tests)
+      where
+        by_box : (q : ℕ) (c : Held K) → slice_get s.row q ≡ Some (at_rest c) → member c.missing i ≡ true → (i < b.n) × (member s.wire.up i ≡ false)
+        by_box q c here m =
+            let o = (rests_at s row is good q c here).misses i m in
+            (omega (arith, o.0, r.n), o.1)
+
+        by_one : (q : ℕ) × (q < b.n) × (tells (heard_by s p q) i ≡ true) → (i < b.n) × (member s.wire.up i ≡ false)
+        by_one (q, k, e) = by (heard_by s p q) refl e
+          where
+            by_frame : (f : Frame K) → (c : Held K) × (slice_get s.row q ≡ Some (at_rest c)) × (f ≡ frame_of c) → member f.missing i ≡ true → (i < b.n) × (member s.wire.up i ≡ false)
+            by_frame f (c, here, same) m = by_box q c here (ap (λ g. member g.missing i) (sym same) ∙ m)
+
+            by : (o : Option (Frame K)) → heard_by s p q ≡ o → tells o i ≡ true → (i < b.n) × (member s.wire.up i ≡ false)
+            by None is e = absurd (grind arith)
+            by (Some f) is e = by_frame f (heard_from p q f is).1 e
+
+    tally : (ltb b.t (count (member (not_heard b (heard_by s p))) 32) || any (λ i. member (told_missing b (heard_by s p)) i && not (member (not_heard b (heard_by s p)) i)) 32) ≡ false
+    tally =
+        let a = company_count b.n (λ i. not (is_some (heard_by s p i))) few in
+        let c = count_le (λ i. not (is_some (heard_by s p i))) (is_gone s.wire) b.n (λ q l e. not_heard_gone q l (grind arith)) in
+        let same = ap (count (is_gone s.wire)) r.n in
+        let d : count (is_gone s.wire) b.n ≤ b.t = omega (arith, same, few_gone s row is good, r.t) in
+        let inside = none_any (λ i. member (told_missing b (heard_by s p)) i && not (member (not_heard b (heard_by s p)) i)) 32 told_inside in
+        grind (arith, nat_tests)
+
+    pub closes_by : ruled leads b (heard_by s p) ≡ Ok (ruled_outcome leads b (heard_by s p))
+    unfolding ruled closed_with ruled_outcome
+    closes_by = ap (λ t. unless ((t, refusal.Tally) ∷ []) (ruled_outcome leads b (heard_by s p))) tally
+
+    module _ (size : ℕ) (named : List ℕ → Option K) (image : K → List ℕ) where
+      pub posts_by : FrameShort image → is_postable (frame_bytes image (frame_of b)) ≡ true
+      posts_by short = by r.box
+        where
+          by : (a : Resting K) × (a.held ≡ b) → is_postable (frame_bytes image (frame_of b)) ≡ true
+          by (a, e) = ap (λ h. is_postable (frame_bytes image (frame_of h))) (sym e) ∙ (let l = short a in grind (arith, nat_tests))
+
+      -- box p hears what box q sends, which it has not heard before
+      pub hears_by : ComposedHeard size named leads image → (q : ℕ) (f : Frame K) → heard_by s p q ≡ Some f → (m : Notes K) → member m.heard q ≡ false
+          → hearing leads size named b m (frame_bytes image f) ≡ Ok (noted leads m f)
+      hears_by composed q f came m new = by r.box (heard_from p q f came).0 (heard_from p q f came).1
+        where
+          by : (a : Resting K) × (a.held ≡ b) → hears_on s.wire p q ≡ true → (c : Held K) × (slice_get s.row q ≡ Some (at_rest c)) × (f ≡ frame_of c)
+              → hearing leads size named b m (frame_bytes image f) ≡ Ok (noted leads m f)
+          by (a, e) on (c, here, same) = from (rests_at s row is good q c here) (rests_at s row is good q c here).box
+            where
+              from : Rests s q c → (d : Resting K) × (d.held ≡ c) → hearing leads size named b m (frame_bytes image f) ≡ Ok (noted leads m f)
+              from o (d, g) =
+                  let numbered : d.held.number.0 ≡ q = ap (λ h. h.number.0) g ∙ o.number in
+                  let heard : member m.heard d.held.number.0 ≡ false = ap (member m.heard) numbered ∙ new in
+                  let up = r.is_up in
+                  let missed = r.misses q in
+                  let lost = o.misses p in
+                  let down : member a.held.missing d.held.number.0 ≡ false = (λ j. member (e j).missing (numbered j)) ∙ grind arith in
+                  let bad : member d.held.missing a.held.number.0 ≡ false = (λ j. member (g j).missing ((ap (λ h. h.number.0) e ∙ r.number) j)) ∙ grind arith in
+                  (λ j. hearing leads size named (sym e j) m (frame_bytes image ((same ∙ ap frame_of (sym g)) j)))
+                  ∙ composed d a m (ap (λ h. h.n) g ∙ o.n ∙ sym r.n ∙ ap (λ h. h.n) (sym e)) (ap (λ h. h.closed) g ∙ o.closed ∙ sym r.closed ∙ ap (λ h. h.closed) (sym e))
+                  ∙ (λ j. result_map_both {T = ⊤} (λ _. noted leads m (frame_of d.held)) (refused a.held) (unless ((heard j, refusal.Heard) ∷ (down j, refusal.Down) ∷ (bad j, refusal.Set) ∷ []) tt))
+                  ∙ ap (λ x. Ok (noted leads m x)) (ap frame_of g ∙ sym same)
+
+pub round_goes : {K : Type 0} (leads : K → K → Bool) (size : ℕ) (named : List ℕ → Option K) (image : K → List ℕ) → FrameShort image → ComposedHeard size named leads image
+    → RoundGoes leads size named image
+round_goes leads size named image short composed s row is formed good still = record {
+  places = places s row is good;
+  own = λ p b at. (rests_at s row is good p b at).number;
+  posts = λ p b at. posts_by leads s row is formed good still p b at size named image short;
+  hears = λ p q b f at came m new. hears_by leads s row is formed good still p b at size named image composed q f came m new;
+  closes = λ p b at. closes_by leads s row is formed good still p b at;
+}
