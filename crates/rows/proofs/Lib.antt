@@ -1,3 +1,3 @@
-mod Numbered
-mod Checked
+pub mod Numbered
+pub mod Checked
 mod Rounds

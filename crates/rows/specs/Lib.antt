@@ -1,5 +1,4 @@
 pub mod Places
 pub mod Numbered
 pub mod Calls
-pub mod Runs
 pub mod Theorems

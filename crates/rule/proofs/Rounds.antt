@@ -10,7 +10,7 @@ use Rattle.rule.specs.Falls.{Falls, fell_before, fell_in, fell_unheard, lasts, r
 
 -- ---- one box that falls
 
-fell_next : (o : Option Fall) (r : ℕ) → fell_before o (suc r) ≡ (fell_before o r || fell_in o r)
+pub fell_next : (o : Option Fall) (r : ℕ) → fell_before o (suc r) ≡ (fell_before o r || fell_in o r)
 fell_next None r = refl
 fell_next (Some f) r = grind (arith, nat_tests)
 

@@ -1,0 +1,150 @@
+-- A fall that is accepted. Assumes nothing.
+use Rattle.std.proofs.Common.{◌≡◌, ℕ, zero, suc, ◌+◌, ◌<◌, ◌≤◌, Bool, true, false, not, ◌&&◌, ◌||◌, cond, eqb, leb, ltb, ◌⊎◌, List, map, is_some, Some, None, Ok, Option, Result, sym, refl, ap, ◌∙◌, inl, inr, arith}
+use Rattle.std.specs.List.{range_with_len}
+use Rattle.std.proofs.lemmas.Bool.{cases_Bool, eqb-true}
+use Rattle.std.proofs.lemmas.Bool.Decides.{nat_tests}
+use Rattle.sets.specs.declared.labels.BoxNumber.{BoxNumber}
+use Rattle.sets.specs.declared.set.BoxSet.{BoxSet}
+use Rattle.sets.specs.Tests.{any, count}
+use Rattle.sets.specs.Masks.{member, set_of}
+use Rattle.sets.proofs.Bits.{set_ext}
+use Rattle.sets.proofs.Counts.{any_none, none_any, count_ext, count_more}
+use Rattle.frames.specs.Frames.{frame_bytes}
+use Rattle.boxes.specs.declared.states.Held.{Held}
+use Rattle.boxes.specs.Boxes.{frame_of}
+use Rattle.boxes.specs.Rounds.{Outcome, rests, rings}
+use Rattle.wire.specs.Meaning.{fallen}
+use Rattle.rule.specs.declared.falls.Fall.{Fall}
+use Rattle.rule.specs.Falls.{Falls, with_fall, fell_before, past, closes}
+use Rattle.rule.specs.Histories.{History, Allowed}
+use Rattle.rule.specs.Values as rule
+use Rattle.rule.specs.Boxes.{held_after, sends_after, outcome_of}
+use Rattle.rule.specs.Theorems.{QuietBefore, OnlyPast, FallToCome}
+use Rattle.rule.proofs.Rounds.{fell_closes, fell_next}
+use Rattle.rows.specs.Places.{down}
+use Rattle.rows.specs.Calls.{State, gone, stand_of}
+use Rattle.runs.specs.Runs.{Call, noted, lost_in, stood, stand_by, row_by, posted_by, wire_by, state_by}
+use Rattle.runs.proofs.Pictured.{lost_some, up_is, lost_is, gone_count}
+use Rattle.runs.proofs.Going.{Going}
+
+none_of : {X : Type 0} (o : Option X) → is_some o ≡ false → o ≡ None
+none_of None e = refl
+none_of (Some x) e = absurd (grind arith)
+
+module _ {K : Type 0} (leads : K → K → Bool) (image : K → List ℕ) (unopened : ℕ → Option (List ℕ)) (coming : FallToCome) (only_past : (h : History K) → OnlyPast h leads)
+    (h : History K) (allowed : Allowed h) (quiet : QuietBefore h h.closed) (due : (q : ℕ) → is_some (h.falls q) ≡ fell_before (h.falls q) (suc (suc h.closed)))
+    (q : ℕ) (lost : BoxSet) where
+  abbrev s : State K
+  s = state_by leads h image unopened
+
+  abbrev fall_now : Fall
+  fall_now = record { round = record { 0 = suc h.closed }; lost = lost }
+
+  abbrev falls : Falls
+  falls = with_fall (suc h.closed) q lost h.falls
+
+  abbrev then : History K
+  then = record h { falls = falls }
+
+  module _ (placed : q < h.n) (up : member s.wire.up q ≡ true) (unfallen : s.wire.lost q ≡ None) (spare : gone s.wire < h.t) where
+    none : h.falls q ≡ None
+    none =
+        let u = up_is leads h allowed.size image unopened q in
+        let l = ap is_some (sym (lost_is leads h allowed.size image unopened q) ∙ unfallen) in
+        let k = lost_some (suc h.closed) (h.falls q) in
+        let a = fell_closes h.falls q h.closed in
+        let b = fell_next (h.falls q) (suc h.closed) in
+        let d = due q in
+        none_of (h.falls q) (grind arith)
+
+    -- ---- up to the last closed round nothing changes
+
+    past_same : past h.closed falls ≡ past h.closed h.falls
+    past_same = coming h.falls h.closed (suc h.closed) q lost none (omega arith)
+
+    closes_same : (p r : ℕ) → r ≤ h.closed → closes falls p r ≡ closes h.falls p r
+    closes_same p r l = sym (only_past then h.closed r p 0 l).0 ∙ ap (λ f. closes f p r) past_same ∙ (only_past h h.closed r p 0 l).0
+
+    held_same : (p r : ℕ) → r ≤ h.closed → held_after then leads p r ≡ held_after h leads p r
+    held_same p r l = sym (only_past then h.closed r p 0 l).3 ∙ ap (λ f. held_after (record h { falls = f; closed = h.closed }) leads p r) past_same ∙ (only_past h h.closed r p 0 l).3
+
+    rings_same : (p r : ℕ) → r ≤ h.closed → rule.rings then p r ≡ rule.rings h p r
+    unfolding held_after
+    rings_same p r l = ap (λ b. eqb b.horizon.0 r) (held_same p r l)
+
+    outcome_same : (p r : ℕ) → r ≤ h.closed → outcome_of then leads p r ≡ outcome_of h leads p r
+    unfolding outcome_of held_after
+    outcome_same p r l = ap (λ b. cond (eqb b.horizon.0 r) (rings (record { 0 = r }) b.estimate) (rests b)) (held_same p r l)
+
+    -- ---- the wire and the row
+
+    lost_same : (i : ℕ) → lost_in (suc h.closed) (falls i) ≡ cond (eqb i q) (Some lost) (lost_in (suc h.closed) (h.falls i))
+    lost_same i = by (eqb i q)
+      where
+        own : eqb (suc h.closed) (suc h.closed) ≡ true
+        own = grind (arith, nat_tests)
+
+        by : (t : Bool) → lost_in (suc h.closed) (cond t (Some (record { round = record { 0 = suc h.closed }; lost = lost })) (h.falls i)) ≡ cond t (Some lost) (lost_in (suc h.closed) (h.falls i))
+        by true = ap (λ t. cond t (Some lost) None) own
+        by false = refl
+
+    stands_same : (p : ℕ) → stand_by leads then p ≡ stand_by leads h p
+    stands_same p = by (cases_Bool (eqb p q))
+      where
+        late : leb (suc h.closed) h.closed ≡ false
+        late = grind (arith, nat_tests)
+
+        by : (eqb p q ≡ true) ⊎ (eqb p q ≡ false) → stand_by leads then p ≡ stand_by leads h p
+        by (inl e) =
+            ap (λ t. stood (cond t (Some fall_now) (h.falls p)) h.closed (outcome_of then leads p h.closed)) e
+            ∙ ap (λ t. cond t (down fall_now.round) (stand_of (outcome_of then leads p h.closed))) late
+            ∙ ap stand_of (outcome_same p h.closed (omega arith))
+            ∙ ap (λ o. stood o h.closed (outcome_of h leads p h.closed)) (sym none ∙ ap h.falls (sym (eqb-true p q e)))
+        by (inr e) = (λ j. stood (cond (e j) (Some fall_now) (h.falls p)) h.closed (outcome_same p h.closed (omega arith) j))
+
+    posted_same : (r i : ℕ) → r ≤ h.closed → posted_by leads then image unopened r i ≡ posted_by leads h image unopened r i
+    unfolding posted_by
+    posted_same zero i l = refl
+    posted_same (suc r) i l =
+        let before : fell_before (falls i) (suc r) ≡ fell_before (h.falls i) (suc r) = fell_closes falls i r ∙ ap not (closes_same i r (omega arith)) ∙ sym (fell_closes h.falls i r) in
+        λ j. cond (ltb i h.n && not (before j)) (Some (frame_bytes image (frame_of (held_same i r (omega arith) j)))) None
+
+    pub fall_kept : Going leads image unopened (record s { wire = fallen q lost s.wire }) then
+    unfolding wire_by row_by
+    fall_kept = record {
+      allowed = record { size = allowed.size; dated = none_any (λ k. fell_before (falls k) 1) h.n (λ k l. dated (eqb k q) (h.falls k) (any_none (λ i. fell_before (h.falls i) 1) h.n allowed.dated k l)); few = few };
+      quiet = λ p k l rings. quiet p k l (rings.0, sym (closes_same p k (omega arith)) ∙ rings.1, sym (rings_same p k (omega arith)) ∙ rings.2);
+      due = λ k. due_now (eqb k q) (h.falls k) (due k);
+      is = λ j. record {
+        wire = record {
+          n = h.n;
+          up = set_of (λ i. ltb i h.n && sym (closes_same i h.closed (omega arith)) j);
+          lost = λ i. sym (lost_same i) j;
+          posted = λ i. sym (posted_same h.closed i (omega arith)) j;
+        };
+        t = h.t;
+        closed = h.closed;
+        row = map (λ p. sym (stands_same p) j) (range_with_len 0 h.n);
+      };
+    }
+      where
+        dated : (t : Bool) (o : Option Fall) → fell_before o 1 ≡ false → fell_before (cond t (Some fall_now) o) 1 ≡ false
+        dated true o e = grind (arith, nat_tests)
+        dated false o e = e
+
+        due_now : (t : Bool) (o : Option Fall) → is_some o ≡ fell_before o (suc (suc h.closed)) → is_some (cond t (Some fall_now) o) ≡ fell_before (cond t (Some fall_now) o) (suc (suc h.closed))
+        due_now true o e = grind (arith, nat_tests)
+        due_now false o e = e
+
+        more : (t : Bool) (o : Option Fall) → is_some (cond t (Some fall_now) o) ≡ (is_some o || t)
+        more true None = refl
+        more true (Some f) = refl
+        more false None = refl
+        more false (Some f) = refl
+
+        few : count (λ k. is_some (falls k)) h.n ≤ h.t
+        few =
+            let e = count_ext (λ k. is_some (falls k)) (λ k. is_some (h.falls k) || eqb k q) h.n (λ k l. more (eqb k q) (h.falls k)) in
+            let m = count_more (λ k. is_some (h.falls k)) h.n q placed (ap is_some none) in
+            let g = gone_count leads h allowed.size image unopened due in
+            omega arith

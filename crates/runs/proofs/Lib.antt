@@ -1,0 +1,3 @@
+mod Pictured
+mod Going
+mod Fallen
