@@ -14,7 +14,7 @@ pub fell_next : (o : Option Fall) (r : ℕ) → fell_before o (suc r) ≡ (fell_
 fell_next None r = refl
 fell_next (Some f) r = grind (arith, nat_tests)
 
-fell_once : (o : Option Fall) (r : ℕ) → fell_before o r ≡ true → fell_in o r ≡ false
+pub fell_once : (o : Option Fall) (r : ℕ) → fell_before o r ≡ true → fell_in o r ≡ false
 fell_once None r e = refl
 fell_once (Some f) r e = grind (arith, nat_tests)
 
@@ -61,7 +61,7 @@ module _ (falls : Falls) where
   unfolding closes
   before_open q r e = grind arith
 
-  unheard_open : (q r p : ℕ) → fell_unheard (falls q) r p ≡ true → closes falls q r ≡ false
+  pub unheard_open : (q r p : ℕ) → fell_unheard (falls q) r p ≡ true → closes falls q r ≡ false
   unfolding closes
   unheard_open q r p e = let f = unheard_fell (falls q) r p e in grind arith
 

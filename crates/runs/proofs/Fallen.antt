@@ -16,7 +16,7 @@ use Rattle.boxes.specs.Rounds.{Outcome, rests, rings}
 use Rattle.wire.specs.Meaning.{fallen}
 use Rattle.rule.specs.declared.falls.Fall.{Fall}
 use Rattle.rule.specs.Falls.{Falls, with_fall, fell_before, past, closes}
-use Rattle.rule.specs.Histories.{History, Allowed}
+use Rattle.rule.specs.Histories.{History, Allowed, as_of}
 use Rattle.rule.specs.Values as rule
 use Rattle.rule.specs.Boxes.{held_after, sends_after, outcome_of}
 use Rattle.rule.specs.Theorems.{QuietBefore, OnlyPast, FallToCome}
@@ -26,8 +26,9 @@ use Rattle.rows.specs.Calls.{State, gone, stand_of}
 use Rattle.runs.specs.Runs.{Call, noted, lost_in, stood, stand_by, row_by, posted_by, wire_by, state_by}
 use Rattle.runs.proofs.Pictured.{lost_some, up_is, lost_is, gone_count}
 use Rattle.runs.proofs.Going.{Going}
+use Rattle.runs.proofs.Same.{closes_same, held_same, rings_same, outcome_same}
 
-none_of : {X : Type 0} (o : Option X) → is_some o ≡ false → o ≡ None
+pub none_of : {X : Type 0} (o : Option X) → is_some o ≡ false → o ≡ None
 none_of None e = refl
 none_of (Some x) e = absurd (grind arith)
 
@@ -59,22 +60,8 @@ module _ {K : Type 0} (leads : K → K → Bool) (image : K → List ℕ) (unope
 
     -- ---- up to the last closed round nothing changes
 
-    past_same : past h.closed falls ≡ past h.closed h.falls
-    past_same = coming h.falls h.closed (suc h.closed) q lost none (omega arith)
-
-    closes_same : (p r : ℕ) → r ≤ h.closed → closes falls p r ≡ closes h.falls p r
-    closes_same p r l = sym (only_past then h.closed r p 0 l).0 ∙ ap (λ f. closes f p r) past_same ∙ (only_past h h.closed r p 0 l).0
-
-    held_same : (p r : ℕ) → r ≤ h.closed → held_after then leads p r ≡ held_after h leads p r
-    held_same p r l = sym (only_past then h.closed r p 0 l).3 ∙ ap (λ f. held_after (record h { falls = f; closed = h.closed }) leads p r) past_same ∙ (only_past h h.closed r p 0 l).3
-
-    rings_same : (p r : ℕ) → r ≤ h.closed → rule.rings then p r ≡ rule.rings h p r
-    unfolding held_after
-    rings_same p r l = ap (λ b. eqb b.horizon.0 r) (held_same p r l)
-
-    outcome_same : (p r : ℕ) → r ≤ h.closed → outcome_of then leads p r ≡ outcome_of h leads p r
-    unfolding outcome_of held_after
-    outcome_same p r l = ap (λ b. cond (eqb b.horizon.0 r) (rings (record { 0 = r }) b.estimate) (rests b)) (held_same p r l)
+    same : as_of h.closed then ≡ as_of h.closed h
+    same = ap (λ f. record h { falls = f }) (coming h.falls h.closed (suc h.closed) q lost none (omega arith))
 
     -- ---- the wire and the row
 
@@ -98,27 +85,27 @@ module _ {K : Type 0} (leads : K → K → Bool) (image : K → List ℕ) (unope
         by (inl e) =
             ap (λ t. stood (cond t (Some fall_now) (h.falls p)) h.closed (outcome_of then leads p h.closed)) e
             ∙ ap (λ t. cond t (down fall_now.round) (stand_of (outcome_of then leads p h.closed))) late
-            ∙ ap stand_of (outcome_same p h.closed (omega arith))
+            ∙ ap stand_of (outcome_same leads only_past then h h.closed same p h.closed (omega arith))
             ∙ ap (λ o. stood o h.closed (outcome_of h leads p h.closed)) (sym none ∙ ap h.falls (sym (eqb-true p q e)))
-        by (inr e) = (λ j. stood (cond (e j) (Some fall_now) (h.falls p)) h.closed (outcome_same p h.closed (omega arith) j))
+        by (inr e) = (λ j. stood (cond (e j) (Some fall_now) (h.falls p)) h.closed (outcome_same leads only_past then h h.closed same p h.closed (omega arith) j))
 
     posted_same : (r i : ℕ) → r ≤ h.closed → posted_by leads then image unopened r i ≡ posted_by leads h image unopened r i
     unfolding posted_by
     posted_same zero i l = refl
     posted_same (suc r) i l =
-        let before : fell_before (falls i) (suc r) ≡ fell_before (h.falls i) (suc r) = fell_closes falls i r ∙ ap not (closes_same i r (omega arith)) ∙ sym (fell_closes h.falls i r) in
-        λ j. cond (ltb i h.n && not (before j)) (Some (frame_bytes image (frame_of (held_same i r (omega arith) j)))) None
+        let before : fell_before (falls i) (suc r) ≡ fell_before (h.falls i) (suc r) = fell_closes falls i r ∙ ap not (closes_same leads only_past then h h.closed same i r (omega arith)) ∙ sym (fell_closes h.falls i r) in
+        λ j. cond (ltb i h.n && not (before j)) (Some (frame_bytes image (frame_of (held_same leads only_past then h h.closed same i r (omega arith) j)))) None
 
     pub fall_kept : Going leads image unopened (record s { wire = fallen q lost s.wire }) then
     unfolding wire_by row_by
     fall_kept = record {
       allowed = record { size = allowed.size; dated = none_any (λ k. fell_before (falls k) 1) h.n (λ k l. dated (eqb k q) (h.falls k) (any_none (λ i. fell_before (h.falls i) 1) h.n allowed.dated k l)); few = few };
-      quiet = λ p k l rings. quiet p k l (rings.0, sym (closes_same p k (omega arith)) ∙ rings.1, sym (rings_same p k (omega arith)) ∙ rings.2);
+      quiet = λ p k l rings. quiet p k l (rings.0, sym (closes_same leads only_past then h h.closed same p k (omega arith)) ∙ rings.1, sym (rings_same leads only_past then h h.closed same p k (omega arith)) ∙ rings.2);
       due = λ k. due_now (eqb k q) (h.falls k) (due k);
       is = λ j. record {
         wire = record {
           n = h.n;
-          up = set_of (λ i. ltb i h.n && sym (closes_same i h.closed (omega arith)) j);
+          up = set_of (λ i. ltb i h.n && sym (closes_same leads only_past then h h.closed same i h.closed (omega arith)) j);
           lost = λ i. sym (lost_same i) j;
           posted = λ i. sym (posted_same h.closed i (omega arith)) j;
         };

@@ -1,3 +1,5 @@
 mod Pictured
 mod Going
+mod Same
 mod Fallen
+mod Played

@@ -111,7 +111,7 @@ module _ {K : Type 0} (leads : K → K → Bool) (h : History K) (size : company
     unfolding outcome_of
     resting_stands p c e = lasting_stands p c ∙ ap (λ t. stand_of (cond t (rings (record { 0 = h.closed }) (rule.estimate h leads p h.closed)) (rests (held_after h leads p h.closed)))) e
 
-    rings_stands : (p : ℕ) → closes h.falls p h.closed ≡ true → rule.rings h p h.closed ≡ true
+    pub rings_stands : (p : ℕ) → closes h.falls p h.closed ≡ true → rule.rings h p h.closed ≡ true
         → stand_by leads h p ≡ stand_of (rings (record { 0 = h.closed }) (rule.estimate h leads p h.closed))
     unfolding outcome_of
     rings_stands p c e = lasting_stands p c ∙ ap (λ t. stand_of (cond t (rings (record { 0 = h.closed }) (rule.estimate h leads p h.closed)) (rests (held_after h leads p h.closed)))) e
