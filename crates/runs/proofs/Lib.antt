@@ -3,3 +3,5 @@ mod Going
 mod Same
 mod Fallen
 mod Played
+mod Made
+mod Following
