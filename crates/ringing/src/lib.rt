@@ -1,6 +1,9 @@
-// x
+// The ringing: the boxes of a company over a wire, from the making to the round in which they ring.
 #![tactic(auto)]
 
+mod check;
+mod guard;
 mod ringing;
+mod round;
 
 pub use ringing::Ringing;

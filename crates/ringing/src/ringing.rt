@@ -1,23 +1,47 @@
+// A ringing: made over a wire, told of falls, asked. Its row is handed to each call.
 ghost use Rattle.std.specs.Prelude.{◌≡◌, true};
 ghost use Rattle.sets.specs.Companies.{company};
-use wire::Wire;
-use sets::BoxNumber;
+
+use super::check::{check_making, is_over};
+use boxes::Resting;
+use kinds::Kind;
 use numbers::Refusal;
-use sets::BoxSet;
+use rows::{Place, Standing};
+use sets::{BoxNumber, BoxSet};
+use wire::Wire;
 
 pub struct Ringing<W: Wire> {
     pub(crate) wire: W,
+    // How many boxes may fall.
     pub(crate) t: u32,
+    // How many rounds are closed.
     pub(crate) closed: u32,
     ghost company: { company (W.meaning wire).n t ≡ true },
 }
 
 impl<W: Wire> Ringing<W> {
-    ghost use Rattle.wire.specs.Meaning.{falling, answer, or_kept};
+    ghost use Rattle.std.specs.Prelude.{map, length, OnErr};
+    ghost use Rattle.std.specs.Result.{result_map_both, result_unwrap_or};
+    ghost use Rattle.frames.specs.Faults.{map_fault};
+    ghost use Rattle.rows.specs.Places.{shown};
+    ghost use Rattle.rows.specs.Calls.{making, telling, asking, answer, or_kept};
+    ghost use Rattle.ringing.specs.States.{state, row_or};
 
-    pub fn fall(&mut self, q: BoxNumber, lost: BoxSet) -> Result<(), Refusal>
-        ensures { result ≡ answer (falling q.0 lost (W.meaning self.old.wire)) }
+    // Makes a ringing of n boxes, of which t may fall, over a wire, and sets up a new box with its proposal in each place of the
+    // row. A refused make gives the wire back and leaves the row as it was.
+    pub fn make<K: Kind>(
+        n: u32,
+        t: u32,
+        wire: W,
+        row: &mut [Place<K>],
+        proposals: &[K],
+    ) -> Result<Ringing<W>, (W, Refusal)>
+        ensures ringing { result_map_both (λ r. state (W.meaning r.wire) r.t r.closed row.new) (λ e. e) result ≡ map_fault (λ e. (wire, e)) (making n t (W.meaning wire) (length row.old) proposals.now) }
+        ensures refused { OnErr result (row.new ≡ row.old) }
     {
-        self.wire.fall(q, lost)
+        match set_up(n, t, &wire, row, proposals) {
+            Ok(()) => Ok(Ringing { wire, t, closed: 0 }),
+            Err(refusal) => Err((wire, refusal)),
+        }
     }
 }

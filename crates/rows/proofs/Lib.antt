@@ -1,3 +1,4 @@
 pub mod Numbered
 pub mod Checked
 mod Rounds
+mod Places

@@ -16,6 +16,10 @@ use Rattle.rows.specs.declared.place.Place.{Place}
 use Rattle.rows.specs.Places.{at_rest, shown}
 use Rattle.rows.specs.Calls.{State, bad_row, over, heard_by}
 
+-- a row is determined by what stands at its places
+abbrev pub RowDetermined : Type 0 → Type 0
+RowDetermined K = (xs ys : List (Place K)) → map shown xs ≡ map shown ys → xs ≡ ys
+
 -- what a round may rely on: there are n places, and each box at rest stands at its own; a wire takes the frame of each; a box hears each
 -- frame that reaches it, if it has not heard that sender before; and its tally is not refused
 pub record Goes {K : Type 0} (leads : K → K → Bool) (size : ℕ) (named : List ℕ → Option K) (image : K → List ℕ) (s : State K) : Type 0 where

@@ -1,6 +1,8 @@
-// The row of a ringing: what stands at the place of each box, what each call makes of it, and that the rule's values stand in it.
+// The row of a ringing: what stands at the place of each box, which row is refused, and what each call makes of it, as definitions.
 #![tactic(auto)]
 
 mod place;
+mod theorems;
 
 pub use place::{Blow, Place, Rung, Standing};
+pub use theorems::rows_stand;
