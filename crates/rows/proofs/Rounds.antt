@@ -11,7 +11,7 @@ use Rattle.sets.specs.declared.set.BoxSet.{BoxSet}
 use Rattle.sets.specs.Companies.{company}
 use Rattle.sets.specs.Tests.{any, count}
 use Rattle.sets.specs.Masks.{member, set_of}
-use Rattle.sets.proofs.Counts.{any_none, any_has, none_any, count_le}
+use Rattle.sets.proofs.Counts.{any_none, any_has, none_any, count_le, one_fails}
 use Rattle.sets.proofs.Members.{member_below, member_is, company_member, company_count}
 use Rattle.frames.specs.declared.frame.Frame.{Frame}
 use Rattle.frames.specs.Frames.{frame_bytes}
@@ -77,6 +77,22 @@ module _ {K : Type 0} (leads : K → K → Bool) (s : State K) (row : List (Plac
       by : (t : Bool) → hears_on s.wire p q ≡ t → is_some (cond t (sent s q) None) ≡ t
       by false e = refl
       by true e = at_last (up_rests q (grind arith))
+
+  -- some box is at rest, and so not all rounds are closed
+  pub rounds_left : company s.wire.n s.t ≡ true → s.closed ≤ s.t
+  rounds_left size = by (one_fails (is_gone s.wire) s.wire.n (let g = few_gone s row is good in grind (arith, nat_tests)))
+    where
+      from : (p : ℕ) (b : Held K) → Rests s p b → (a : Resting K) × (a.held ≡ b) → s.closed ≤ s.t
+      from p b r (a, e) =
+          let c : a.held.closed ≡ s.closed = ap (λ h. h.closed) e ∙ r.closed in
+          let t : a.held.t ≡ s.t = ap (λ h. h.t) e ∙ r.t in
+          omega (arith, a.ahead, a.due)
+
+      at_rest_is : (p : ℕ) → (b : Held K) × (slice_get s.row p ≡ Some (at_rest b)) → s.closed ≤ s.t
+      at_rest_is p (b, at) = from p b (rests_at s row is good p b at) (rests_at s row is good p b at).box
+
+      by : (p : ℕ) × (p < s.wire.n) × (is_gone s.wire p ≡ false) → s.closed ≤ s.t
+      by (p, l, e) = at_rest_is p (up_rests p (grind arith))
 
   module _ (p : ℕ) (b : Held K) (at : slice_get s.row p ≡ Some (at_rest b)) where
     r : Rests s p b
@@ -160,8 +176,9 @@ module _ {K : Type 0} (leads : K → K → Bool) (s : State K) (row : List (Plac
 
 pub round_goes : {K : Type 0} (leads : K → K → Bool) (size : ℕ) (named : List ℕ → Option K) (image : K → List ℕ) → FrameShort image → ComposedHeard size named leads image
     → RoundGoes leads size named image
-round_goes leads size named image short composed s row is formed good still = record {
+round_goes leads size named image short composed s row is formed size_ok good still = record {
   places = places s row is good;
+  ahead = rounds_left leads s row is formed good still size_ok;
   own = λ p b at. (rests_at s row is good p b at).number;
   posts = λ p b at. posts_by leads s row is formed good still p b at size named image short;
   hears = λ p q b f at came m new. hears_by leads s row is formed good still p b at size named image composed q f came m new;

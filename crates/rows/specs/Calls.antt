@@ -24,7 +24,7 @@ use Rattle.wire.specs.Meaning.{Meaning, is_lost, falling}
 use Rattle.rows.specs.declared.place.Blow.TheVariants as blow
 use Rattle.rows.specs.declared.place.Standing.{Standing}
 use Rattle.rows.specs.Numbered.{by_number, any_numbered}
-use Rattle.rows.specs.Places.{Stand, at_rest, down, rung, standing_of}
+use Rattle.rows.specs.Places.{Stand, at_rest, down, rung, stand_of, standing_of}
 
 -- what a ringing is at some moment, with the row that is handed to its calls: the wire's meaning, how many boxes may fall, how many rounds
 -- are closed, and what stands at each place
@@ -122,10 +122,6 @@ module _ {K : Type 0} where
   -- the frames that box p hears: of each box that it hears what that one sends
   abbrev pub heard_by : State K → ℕ → Heard K
   heard_by s p q = cond (hears_on s.wire p q) (sent s q) None
-
-  abbrev pub stand_of : Outcome K → Stand K
-  stand_of (rests b) = at_rest b
-  stand_of (rings r v) = rung (record { round = r; proposal = v; blow = blow.Rings })
 
   -- the round to come, or open
   abbrev pub coming : State K → RoundNumber

@@ -2,6 +2,7 @@
 use Rattle.std.specs.Prelude.{ℕ, List, codes, Some, None, Option}
 use Rattle.sets.specs.declared.labels.RoundNumber.{RoundNumber}
 use Rattle.boxes.specs.declared.states.Held.{Held}
+use Rattle.boxes.specs.Rounds.{Outcome, rests, rings}
 use Rattle.rows.specs.declared.place.Blow.{Blow}
 use Rattle.rows.specs.declared.place.Blow.TheVariants as blow
 use Rattle.rows.specs.declared.place.Rung.{Rung}
@@ -20,6 +21,11 @@ abbrev pub shown : {K : Type 0} → Place K → Stand K
 shown (place.Resting b) = at_rest b.held
 shown (place.Down r) = down r
 shown (place.Rung x) = rung x
+
+-- what stands for a box that has closed a round: it is at rest, or rings and has drawn no strike order
+abbrev pub stand_of : {K : Type 0} → Outcome K → Stand K
+stand_of (rests b) = at_rest b
+stand_of (rings r v) = rung (record { round = r; proposal = v; blow = blow.Rings })
 
 -- what is told of it
 abbrev pub standing_of : {K : Type 0} → Stand K → Standing K

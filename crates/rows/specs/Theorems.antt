@@ -1,5 +1,5 @@
 -- What holds of a ringing with its row. Assumes nothing.
-use Rattle.std.specs.Prelude.{◌≡◌, ℕ, Bool, true, false, List, length, map, Some, None, Ok, Option}
+use Rattle.std.specs.Prelude.{◌≡◌, ℕ, ◌≤◌, Bool, true, false, List, length, map, Some, None, Ok, Option}
 use Rattle.std.specs.List.{slice_get}
 use Rattle.sets.specs.Companies.{company}
 use Rattle.sets.specs.Masks.{member}
@@ -20,10 +20,11 @@ use Rattle.rows.specs.Calls.{State, bad_row, over, heard_by}
 abbrev pub RowDetermined : Type 0 → Type 0
 RowDetermined K = (xs ys : List (Place K)) → map shown xs ≡ map shown ys → xs ≡ ys
 
--- what a round may rely on: there are n places, and each box at rest stands at its own; a wire takes the frame of each; a box hears each
+-- what a round may rely on: there are n places, and each box at rest stands at its own; no more than t rounds are closed; a wire takes the frame of each; a box hears each
 -- frame that reaches it, if it has not heard that sender before; and its tally is not refused
 pub record Goes {K : Type 0} (leads : K → K → Bool) (size : ℕ) (named : List ℕ → Option K) (image : K → List ℕ) (s : State K) : Type 0 where
   pub places : length s.row ≡ s.wire.n
+  pub ahead : s.closed ≤ s.t
   pub own : (p : ℕ) (b : Held K) → slice_get s.row p ≡ Some (at_rest b) → b.number.0 ≡ p
   pub posts : (p : ℕ) (b : Held K) → slice_get s.row p ≡ Some (at_rest b) → is_postable (frame_bytes image (frame_of b)) ≡ true
   pub hears : (p q : ℕ) (b : Held K) (f : Frame K) → slice_get s.row p ≡ Some (at_rest b) → heard_by s p q ≡ Some f
@@ -32,5 +33,5 @@ pub record Goes {K : Type 0} (leads : K → K → Bool) (size : ℕ) (named : Li
 
 -- in a round of a row that is not refused, in which no box rings, nothing is refused
 abbrev pub RoundGoes : {K : Type 0} → (K → K → Bool) → ℕ → (List ℕ → Option K) → (K → List ℕ) → Type 0
-RoundGoes {K} leads size named image = (s : State K) (row : List (Place K)) → s.row ≡ map shown row → WellFormed s.wire
+RoundGoes {K} leads size named image = (s : State K) (row : List (Place K)) → s.row ≡ map shown row → WellFormed s.wire → company s.wire.n s.t ≡ true
     → bad_row s ≡ false → over s ≡ false → Goes leads size named image s

@@ -1,8 +1,9 @@
 // A row has a place for each box of a company. What stands at a place, and what is told of it.
 ghost use Rattle.std.specs.Prelude.{◌≡◌, codes};
-ghost use Rattle.rows.specs.Places.{shown, standing_of, standing_word, round_of, proposal_of};
+ghost use Rattle.boxes.specs.Rounds.{outcome};
+ghost use Rattle.rows.specs.Places.{shown, stand_of, standing_of, standing_word, round_of, proposal_of};
 
-use boxes::Resting;
+use boxes::{Closed, Resting};
 use sets::RoundNumber;
 
 // How far the blow of a box that rings has come: none was drawn yet; it is out, that is, its strike order was drawn; it was
@@ -51,6 +52,22 @@ impl<K: Copy> Place<K> {
             Place::Resting(_) => Standing::Up,
             Place::Down(round) => Standing::Down(round),
             Place::Rung(rung) => Standing::Rung(rung),
+        }
+    }
+}
+
+// What stands for a box that has closed a round.
+impl<K> From<Closed<K>> for Place<K> {
+    ghost from_gives = { λ c r. shown r ≡ stand_of (outcome c) };
+
+    fn from(closed: Closed<K>) -> Place<K> {
+        match closed {
+            Closed::Rests(resting) => Place::Resting(resting),
+            Closed::Rings { round, proposal } => Place::Rung(Rung {
+                round,
+                proposal,
+                blow: Blow::Rings,
+            }),
         }
     }
 }

@@ -21,8 +21,8 @@ use Rattle.rule.specs.Values as rule
 use Rattle.rule.specs.Boxes.{held_after, sends_after, outcome_of}
 use Rattle.rule.specs.Theorems.{QuietBefore, OnlyPast, FallToCome}
 use Rattle.rule.proofs.Rounds.{fell_closes, fell_next}
-use Rattle.rows.specs.Places.{down}
-use Rattle.rows.specs.Calls.{State, gone, stand_of}
+use Rattle.rows.specs.Places.{down, stand_of}
+use Rattle.rows.specs.Calls.{State, gone}
 use Rattle.runs.specs.Runs.{Call, noted, lost_in, stood, stand_by, row_by, posted_by, wire_by, state_by}
 use Rattle.runs.proofs.Pictured.{lost_some, up_is, lost_is, gone_count}
 use Rattle.runs.proofs.Going.{Going}

@@ -21,8 +21,8 @@ use Rattle.rule.specs.Values.{missed}
 use Rattle.rule.specs.Boxes.{held_after, outcome_of}
 use Rattle.rule.specs.Theorems.{QuietBefore}
 use Rattle.rule.proofs.Rounds.{closing_heard, fell_closes, fell_next}
-use Rattle.rows.specs.Places.{Stand, at_rest, down, rung}
-use Rattle.rows.specs.Calls.{State, is_gone, gone, is_other, misplaced, bad_row, has_rung, over, stand_of}
+use Rattle.rows.specs.Places.{Stand, at_rest, down, rung, stand_of}
+use Rattle.rows.specs.Calls.{State, is_gone, gone, is_other, misplaced, bad_row, has_rung, over}
 use Rattle.rows.proofs.Numbered.{get-range, get_some, numbered_none}
 use Rattle.runs.specs.Runs.{lost_in, stood, stand_by, row_by, wire_by, state_by}
 

@@ -25,9 +25,9 @@ use Rattle.rule.specs.Values as rule
 use Rattle.rule.specs.Boxes.{held_after, sends_after, outcome_of, hears_of_company, hears_after}
 use Rattle.rule.specs.Theorems.{QuietBefore, BoxFollows, OnlyPast}
 use Rattle.rule.proofs.Rounds.{closed_before, fell_closes, fell_next, fell_once, unheard_open}
-use Rattle.rows.specs.Places.{Stand, at_rest, down, rung}
+use Rattle.rows.specs.Places.{Stand, at_rest, down, rung, stand_of}
 use Rattle.rows.specs.Numbered.{by_number}
-use Rattle.rows.specs.Calls.{State, frame_at, sent, hears_on, heard_by, coming, has_rung, over, stand_of, stand_after, played}
+use Rattle.rows.specs.Calls.{State, frame_at, sent, hears_on, heard_by, coming, has_rung, over, stand_after, played}
 use Rattle.rows.proofs.Numbered.{list_ext, get-by_number, list_none}
 use Rattle.runs.specs.Runs.{lost_in, stood, stand_by, row_by, posted_by, wire_by, state_by}
 use Rattle.runs.proofs.Pictured.{lost_some, lost_holds, stood_lasts, at_place, fallen_stands, lasting_stands, resting_stands, rings_stands, up_is, lost_is}

@@ -11,8 +11,8 @@ use Rattle.rule.specs.declared.falls.Fall.{Fall}
 use Rattle.rule.specs.Falls.{no_falls, with_fall, fell_before, closes}
 use Rattle.rule.specs.Histories.{History}
 use Rattle.rule.specs.Boxes.{sends_after, outcome_of}
-use Rattle.rows.specs.Places.{Stand, down}
-use Rattle.rows.specs.Calls.{State, telling, playing, asking, or_kept, stand_of}
+use Rattle.rows.specs.Places.{Stand, down, stand_of}
+use Rattle.rows.specs.Calls.{State, telling, playing, asking, or_kept}
 
 -- a call on a ringing: a box falls; a round with so many line bytes; what is told of a box
 pub data Call : Type 0 where
