@@ -3,6 +3,7 @@
 
 mod check;
 mod guard;
+mod make;
 mod ringing;
 mod round;
 

@@ -2,8 +2,8 @@
 ghost use Rattle.std.specs.Prelude.{◌≡◌, true};
 ghost use Rattle.sets.specs.Companies.{company};
 
-use super::check::{check_making, is_over};
-use boxes::Resting;
+use super::check::{check_fall, gone, is_over};
+use super::make::set_up;
 use kinds::Kind;
 use numbers::Refusal;
 use rows::{Place, Standing};
@@ -25,7 +25,7 @@ impl<W: Wire> Ringing<W> {
     ghost use Rattle.frames.specs.Faults.{map_fault};
     ghost use Rattle.rows.specs.Places.{shown};
     ghost use Rattle.rows.specs.Calls.{making, telling, asking, answer, or_kept};
-    ghost use Rattle.ringing.specs.States.{state, row_or};
+    ghost use Rattle.ringing.specs.States.{state};
 
     // Makes a ringing of n boxes, of which t may fall, over a wire, and sets up a new box with its proposal in each place of the
     // row. A refused make gives the wire back and leaves the row as it was.
@@ -42,6 +42,37 @@ impl<W: Wire> Ringing<W> {
         match set_up(n, t, &wire, row, proposals) {
             Ok(()) => Ok(Ringing { wire, t, closed: 0 }),
             Err(refusal) => Err((wire, refusal)),
+        }
+    }
+    // Tells that box q falls in the round to come, in which the boxes of its lost set do not hear it.
+    pub fn fall<K: Kind>(
+        &mut self,
+        row: &[Place<K>],
+        q: BoxNumber,
+        lost: BoxSet,
+    ) -> Result<(), Refusal>
+        ensures answer { result ≡ answer (telling q lost (state (W.meaning self.old.wire) self.old.t self.old.closed row.now)) }
+        ensures state { state (W.meaning self.new.wire) self.new.t self.new.closed row.now ≡ or_kept (state (W.meaning self.old.wire) self.old.t self.old.closed row.now) (telling q lost (state (W.meaning self.old.wire) self.old.t self.old.closed row.now)) }
+    {
+        self.check_row(row)?;
+        if is_over(row) {
+            return Err(Refusal::Over);
+        }
+        check_fall(&self.wire, q, lost)?;
+        if gone(&self.wire).count() >= self.t {
+            return Err(Refusal::Spent);
+        }
+        self.wire.fall(q, lost)
+    }
+
+    // What is told of box p.
+    pub fn ask<K: Kind>(&self, row: &[Place<K>], p: BoxNumber) -> Result<Standing<K>, Refusal>
+        ensures { result ≡ asking p (state (W.meaning self.now.wire) self.now.t self.now.closed row.now) }
+    {
+        self.check_row(row)?;
+        match row.get(p.0 as usize) {
+            Some(place) => Ok(place.standing()),
+            None => Err(Refusal::Stranger),
         }
     }
 }

@@ -1,6 +1,7 @@
 -- Lists whose elements are taken with their numbers. Assumes nothing.
 use Rattle.std.proofs.Common.{◌≡◌, ℕ, zero, suc, ◌+◌, ◌<◌, Bool, true, false, cond, ltb, ◌||◌, ◌⊎◌, List, [], ◌∷◌, length, map, Some, None, Option, option_map, sym, refl, ap, ◌∙◌, arith}
 use Rattle.std.specs.List.{list_any, enumerate_from, slice_get, range_with_len}
+use Rattle.std.proofs.lemmas.Bool.{both_ways}
 use Rattle.std.proofs.lemmas.Bool.Decides.{nat_tests}
 use Rattle.std.proofs.lemmas.List.{length-map}
 use Rattle.std.proofs.lemmas.List.FromFn.{length-enumerate_from}
@@ -74,6 +75,14 @@ module _ {X : Type 0} (P : ℕ → X → Bool) where
   pub numbered_none : (xs : List X) → ((p : ℕ) (x : X) → slice_get xs p ≡ Some x → P p x ≡ false) → any_numbered P xs ≡ false
   unfolding any_numbered
   numbered_none xs none = from_none 0 xs (λ p x at. let same : 0 + p ≡ p = omega arith in ap (λ i. P i x) same ∙ none p x at)
+
+  -- and one that passes is enough
+  pub numbered_some : (xs : List X) (p : ℕ) (x : X) → slice_get xs p ≡ Some x → P p x ≡ true → any_numbered P xs ≡ true
+  numbered_some xs p x at e = by (any_numbered P xs) refl
+    where
+      by : (t : Bool) → any_numbered P xs ≡ t → any_numbered P xs ≡ true
+      by true is = is
+      by false is = absurd (both_ways (P p x) (none_numbered xs is p x at) e)
 
 -- none of a list passes a test
 pub list_none : {X : Type 0} (P : X → Bool) (xs : List X) → list_any P xs ≡ false → (p : ℕ) (x : X) → slice_get xs p ≡ Some x → P x ≡ false

@@ -1,0 +1,34 @@
+-- What the sets of a wire say of its meaning. Assumes nothing.
+use Rattle.std.proofs.Common.{◌≡◌, ℕ, ◌^◌, ◌<◌, Bool, true, false, not, ◌&&◌, ltb, is_some, Some, None, Option, sym, refl, ap, ◌∙◌, arith}
+use Rattle.std.proofs.lemmas.Bool.Decides.{nat_tests}
+use Rattle.sets.specs.declared.set.BoxSet.{BoxSet}
+use Rattle.sets.specs.Tests.{any}
+use Rattle.sets.specs.Masks.{member, set_of}
+use Rattle.sets.proofs.Counts.{any_ext}
+use Rattle.sets.proofs.Members.{member_is, member_below}
+use Rattle.wire.specs.Meaning.{Meaning, WellFormed, falling_set}
+
+module _ (m : Meaning) (w : WellFormed m) where
+  -- who falls is of the company, and up
+  pub lost_placed : (q : ℕ) → is_some (m.lost q) ≡ true → (q < m.n) × (member m.up q ≡ true)
+  lost_placed q e = by (m.lost q) refl
+    where
+      by : (o : Option BoxSet) → m.lost q ≡ o → (q < m.n) × (member m.up q ≡ true)
+      by None is = absurd (grind arith)
+      by (Some s) is = let f = w.falling q s is in (member_below m.n m.up q w.up_within f.0, f.0)
+
+  pub falling_member : (s : BoxSet) → s ≡ falling_set m → (q : ℕ) → q < 32 → (member s q ≡ is_some (m.lost q)) × (is_some (m.lost q) ≡ (ltb q m.n && is_some (m.lost q)))
+  falling_member s e q l =
+      let p = lost_placed q in
+      (member_is (λ i. is_some (m.lost i)) s e q l, grind (arith, nat_tests))
+
+  pub few : m.n < 33
+  few = let s = w.size in grind (arith, nat_tests)
+
+  -- to miss a box that is not down is to miss one that is up
+  pub misses_up : (missing d : BoxSet) → d ≡ set_of (λ q. ltb q m.n && not (member m.up q)) → missing.mask < 2 ^ m.n
+      → any (λ i. member missing i && not (member d i)) 32 ≡ any (λ q. member missing q && member m.up q) 32
+  misses_up missing d e within = any_ext (λ i. member missing i && not (member d i)) (λ q. member missing q && member m.up q) 32 (λ i l.
+      let a = member_is (λ q. ltb q m.n && not (member m.up q)) d e i l in
+      let k = member_below m.n missing i within in
+      grind (arith, nat_tests))

@@ -1,0 +1,18 @@
+use Rattle.std.proofs.Common.{ltb, not, ◌&&◌, ◌||◌, is_some, ◌∙◌, arith}
+use Rattle.std.proofs.lemmas.Bool.Decides.{nat_tests}
+use Rattle.sets.specs.Masks.{member}
+use Rattle.sets.proofs.Bits.{set_ext}
+use Rattle.sets.proofs.Members.{member_is, member_below}
+use Rattle.rows.specs.Calls.{is_gone}
+use Rattle.ringing.proofs.Wires.{falling_member}
+use Rattle.ringing.proofs.check.gone.Goals as goal
+
+pub returns : goal.returns
+returns g c =
+    let m = g.W.Wire.meaning c.args.wire.now in
+    let w = g.met.W.Wire.formed c.args.wire.now in
+    c.union.ensures
+    ∙ set_ext _ (λ i. ltb i m.n && is_gone m i) (λ i l.
+    let d = member_is (λ q. ltb q m.n && not (member m.up q)) c.down.result c.down.ensures i l in
+    let f = falling_member m w c.falling.result c.falling.ensures i l in
+    grind (arith, nat_tests))

@@ -1,0 +1,104 @@
+// What is checked before a call does anything.
+ghost use Rattle.std.specs.Prelude.{◌≡◌, false, not, ◌||◌, ◌&&◌, nat_lt, [], map};
+ghost use Rattle.std.specs.List.{list_any};
+ghost use Rattle.sets.specs.Masks.{set_of};
+ghost use Rattle.sets.specs.Masks.{member};
+ghost use Rattle.wire.specs.Meaning.{falling, answer};
+ghost use Rattle.rows.specs.Places.{shown};
+ghost use Rattle.rows.specs.Calls.{has_rung, is_gone};
+
+use super::ringing::Ringing;
+use boxes::Resting;
+use kinds::Kind;
+use numbers::Refusal;
+use rows::Place;
+use sets::{BoxNumber, BoxSet, RoundNumber};
+use wire::Wire;
+
+fn has_rung<K: Kind>(place: &Place<K>) -> bool
+    ensures { result ≡ has_rung (shown place.now) }
+{
+    matches!(place, Place::Rung(_))
+}
+
+// Whether a box of the row rings.
+pub(crate) fn is_over<K: Kind>(row: &[Place<K>]) -> bool
+    ensures { result ≡ list_any (λ x. has_rung (shown x)) row.now }
+{
+    row.iter().any(has_rung)
+}
+
+// The boxes of the wire's company that are not up.
+fn down<W: Wire>(wire: &W) -> BoxSet
+    ensures { result ≡ set_of (λ q. nat_lt q (W.meaning wire.now).n && not (member (W.meaning wire.now).up q)) }
+{
+    BoxSet::all_below(wire.n()).difference(wire.up())
+}
+
+// The boxes of the wire's company that are down or falling.
+pub(crate) fn gone<W: Wire>(wire: &W) -> BoxSet
+    ensures { result ≡ set_of (λ q. nat_lt q (W.meaning wire.now).n && is_gone (W.meaning wire.now) q) }
+{
+    down(wire).union(wire.falling())
+}
+
+// Whether the wire lets box q fall with this lost set, or why not.
+#[tactic(auto, unfolding(wire::specs::Meaning::falling))]
+pub(crate) fn check_fall<W: Wire>(wire: &W, q: BoxNumber, lost: BoxSet) -> Result<(), Refusal>
+    ensures { result ≡ answer (falling q.0 lost (W.meaning wire.now)) }
+{
+    let n = wire.n();
+    if q.0 >= n {
+        return Err(Refusal::Stranger);
+    }
+    if !lost.is_below(n) || lost.contains(q) {
+        return Err(Refusal::Set);
+    }
+    if !wire.up().contains(q) || wire.falling().contains(q) {
+        return Err(Refusal::Down);
+    }
+    Ok(())
+}
+
+impl<W: Wire> Ringing<W> {
+    ghost use Rattle.rows.specs.Calls.{is_other, misplaced, row_checked};
+    ghost use Rattle.ringing.specs.States.{state};
+
+    // Whether the box at rest is the one that this ringing has at place p.
+    fn is_own<K: Kind>(&self, p: BoxNumber, b: Resting<K>) -> bool
+        ensures { result ≡ not (is_other (state (W.meaning self.now.wire) self.now.t self.now.closed []) p.0 b.held) }
+    {
+        b.number() == p
+            && b.n() == self.wire.n()
+            && b.t() == self.t
+            && b.closed() == self.closed
+            && b.missing().is_subset(down(&self.wire))
+    }
+
+    // Whether this may stand at place p.
+    fn may_stand<K: Kind>(&self, p: BoxNumber, place: Place<K>) -> bool
+        ensures { result ≡ not (misplaced (state (W.meaning self.now.wire) self.now.t self.now.closed []) p.0 (shown place)) }
+    {
+        let is_up = self.wire.up().contains(p);
+        match place {
+            Place::Resting(b) => is_up && self.is_own(p, b),
+            Place::Down(_) => !is_up,
+            Place::Rung(rung) => is_up && rung.round == RoundNumber(self.closed),
+        }
+    }
+
+    // Whether the row is this ringing's, or why not.
+    pub(crate) fn check_row<K: Kind>(&self, row: &[Place<K>]) -> Result<(), Refusal>
+        ensures { result ≡ row_checked (state (W.meaning self.now.wire) self.now.t self.now.closed row.now) }
+    {
+        if row.len() != self.wire.n() as usize || gone(&self.wire).count() > self.t {
+            return Err(Refusal::Row);
+        }
+        for (p, place) in row.iter().enumerate() {
+            if !self.may_stand(BoxNumber(p as u32), *place) {
+                return Err(Refusal::Row);
+            }
+        }
+        Ok(())
+    }
+}
