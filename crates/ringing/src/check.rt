@@ -61,7 +61,8 @@ pub(crate) fn check_fall<W: Wire>(wire: &W, q: BoxNumber, lost: BoxSet) -> Resul
 }
 
 impl<W: Wire> Ringing<W> {
-    ghost use Rattle.rows.specs.Calls.{is_other, misplaced, row_checked};
+    ghost use Rattle.rows.specs.Calls as rows;
+    ghost use Rattle.rows.specs.Calls.{is_other, misplaced, row_checked, telling};
     ghost use Rattle.ringing.specs.States.{state};
 
     // Whether the box at rest is the one that this ringing has at place p.
@@ -98,6 +99,26 @@ impl<W: Wire> Ringing<W> {
             if !self.may_stand(BoxNumber(p as u32), *place) {
                 return Err(Refusal::Row);
             }
+        }
+        Ok(())
+    }
+
+    // Whether it may be told that box q falls with this lost set, or why not.
+    pub(crate) fn check_telling<K: Kind>(
+        &self,
+        row: &[Place<K>],
+        q: BoxNumber,
+        lost: BoxSet,
+    ) -> Result<(), Refusal>
+        ensures { result ≡ rows.answer (telling q lost (state (W.meaning self.now.wire) self.now.t self.now.closed row.now)) }
+    {
+        self.check_row(row)?;
+        if is_over(row) {
+            return Err(Refusal::Over);
+        }
+        check_fall(&self.wire, q, lost)?;
+        if gone(&self.wire).count() >= self.t {
+            return Err(Refusal::Spent);
         }
         Ok(())
     }

@@ -2,7 +2,6 @@
 ghost use Rattle.std.specs.Prelude.{◌≡◌, true};
 ghost use Rattle.sets.specs.Companies.{company};
 
-use super::check::{check_fall, gone, is_over};
 use super::make::set_up;
 use kinds::Kind;
 use numbers::Refusal;
@@ -54,18 +53,12 @@ impl<W: Wire> Ringing<W> {
         ensures answer { result ≡ answer (telling q lost (state (W.meaning self.old.wire) self.old.t self.old.closed row.now)) }
         ensures state { state (W.meaning self.new.wire) self.new.t self.new.closed row.now ≡ or_kept (state (W.meaning self.old.wire) self.old.t self.old.closed row.now) (telling q lost (state (W.meaning self.old.wire) self.old.t self.old.closed row.now)) }
     {
-        self.check_row(row)?;
-        if is_over(row) {
-            return Err(Refusal::Over);
-        }
-        check_fall(&self.wire, q, lost)?;
-        if gone(&self.wire).count() >= self.t {
-            return Err(Refusal::Spent);
-        }
+        self.check_telling(row, q, lost)?;
         self.wire.fall(q, lost)
     }
 
     // What is told of box p.
+    #[tactic(auto, using(crate::proofs::Rows::shown_at), unfolding(rows::specs::Calls::asking))]
     pub fn ask<K: Kind>(&self, row: &[Place<K>], p: BoxNumber) -> Result<Standing<K>, Refusal>
         ensures { result ≡ asking p (state (W.meaning self.now.wire) self.now.t self.now.closed row.now) }
     {

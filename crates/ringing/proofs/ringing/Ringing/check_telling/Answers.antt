@@ -1,0 +1,51 @@
+use Rattle.std.proofs.Common.{◌≡◌, ◌<◌, ◌≤◌, true, false, Ok, Err, sym, ap, ◌∙◌, map, arith}
+use Rattle.std.specs.List.{list_any}
+use Rattle.rows.specs.Places.{shown}
+use Rattle.rows.specs.Calls.{State, gone, bad_row, over, has_rung}
+use Rattle.ringing.specs.States.{state}
+use Rattle.ringing.proofs.Rows.{gone_count, over_is}
+use Rattle.ringing.proofs.Falls.{is_checked, not_checked, tell_bad, tell_over, answer_refused, answer_spent, answer_ok}
+use Rattle.ringing.proofs.ringing.Ringing.check_telling.Goals as goal
+
+pub returns-in_err-check_row : goal.returns-in_err-check_row
+returns-in_err-check_row g c =
+    let r = c.args.self.now in
+    let s = state (g.W.Wire.meaning r.wire) r.t r.closed c.args.row.now in
+    let n = not_checked s c.in_err-check_row.field-0.0 c.in_err-check_row.ensures in
+    let t = tell_bad c.args.q c.args.lost s n.0 in
+    grind (arith, t, n.1)
+
+pub returns-then-is_over : goal.returns-then-is_over
+returns-then-is_over g c =
+    let r = c.args.self.now in
+    let s = state (g.W.Wire.meaning r.wire) r.t r.closed c.args.row.now in
+    let good = is_checked s c.in_ok-check_row.ensures in
+    let t = tell_over c.args.q c.args.lost s good (over_is c.args.row.now ∙ sym c.is_over.ensures ∙ c.if-is_over.true) in
+    grind (arith, t)
+
+pub returns-in_err-check_fall : goal.returns-in_err-check_fall
+returns-in_err-check_fall g c =
+    let r = c.args.self.now in
+    let s = state (g.W.Wire.meaning r.wire) r.t r.closed c.args.row.now in
+    let good = is_checked s c.in_ok-check_row.ensures in
+    let e = c.in_err-check_fall.field-0.0 in
+    let t = answer_refused c.args.q c.args.lost s good (over_is c.args.row.now ∙ sym c.is_over.ensures ∙ c.if-is_over.false) c.check_fall.result c.check_fall.ensures e c.in_err-check_fall.was in
+    grind (arith, t)
+
+pub returns-then-count-self : goal.returns-then-count-self
+returns-then-count-self g c =
+    let r = c.args.self.now in
+    let m = g.W.Wire.meaning r.wire in
+    let s = state m r.t r.closed c.args.row.now in
+    let good = is_checked s c.in_ok-check_row.ensures in
+    let k = gone_count m (g.met.W.Wire.formed r.wire) c.gone.result c.gone.ensures in
+    sym (answer_spent c.args.q c.args.lost s good (over_is c.args.row.now ∙ sym c.is_over.ensures ∙ c.if-is_over.false) c.check_fall.result c.check_fall.ensures c.in_ok-check_fall.was (omega (arith, k, c.count.ensures, c.if-count-self.true)))
+
+pub returns : goal.returns
+returns g c =
+    let r = c.args.self.now in
+    let m = g.W.Wire.meaning r.wire in
+    let s = state m r.t r.closed c.args.row.now in
+    let good = is_checked s c.in_ok-check_row.ensures in
+    let k = gone_count m (g.met.W.Wire.formed r.wire) c.gone.result c.gone.ensures in
+    sym (answer_ok c.args.q c.args.lost s good (over_is c.args.row.now ∙ sym c.is_over.ensures ∙ c.if-is_over.false) c.check_fall.result c.check_fall.ensures c.in_ok-check_fall.was (omega (arith, k, c.count.ensures, c.if-count-self.false)))

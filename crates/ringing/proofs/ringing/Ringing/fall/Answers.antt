@@ -1,0 +1,27 @@
+use Rattle.std.proofs.Common.{◌≡◌, true, ap, sym, ◌∙◌, Ok, arith}
+use Rattle.sets.specs.Companies.{company}
+use Rattle.wire.specs.Meaning as wire
+use Rattle.wire.specs.Meaning.{Meaning, falling}
+use Rattle.rows.specs.Calls.{State, telling, answer, or_kept}
+use Rattle.ringing.specs.States.{state}
+use Rattle.ringing.proofs.Falls.{told_ok, falls_size}
+use Rattle.ringing.proofs.ringing.Ringing.fall.Given as given
+use Rattle.ringing.proofs.ringing.Ringing.fall.Goals as goal
+
+pub invariant_of-self : goal.invariant_of-self
+invariant_of-self g c =
+    let r = c.args.self.now in
+    let m = g.W.Wire.meaning r.wire in
+    let size = ap (λ x. x.n) c.fall.ensures.meaning ∙ falls_size c.args.q.0 c.args.lost m in
+    record { company = ap (λ n. company n r.t) size ∙ r.company }
+
+pub returns : goal.returns
+returns g c =
+    let r = c.args.self.now in
+    let m = g.W.Wire.meaning r.wire in
+    let s = state m r.t r.closed c.args.row.now in
+    let t = told_ok c.args.q c.args.lost s c.in_ok-check_telling.ensures in
+    record {
+      answer = c.fall.ensures.answer ∙ ap wire.answer t.1 ∙ sym (ap answer t.2);
+      state = ap (λ x. record s { wire = x }) (c.fall.ensures.meaning ∙ ap (wire.or_kept m) t.1) ∙ sym (ap (or_kept s) t.2);
+    }
