@@ -1,12 +1,15 @@
 -- What the sets of a wire say of its meaning. Assumes nothing.
-use Rattle.std.proofs.Common.{◌≡◌, ℕ, ◌^◌, ◌<◌, Bool, true, false, not, ◌&&◌, ltb, is_some, Some, None, Option, sym, refl, ap, ◌∙◌, arith}
+use Rattle.std.proofs.Common.{◌≡◌, ℕ, ◌^◌, ◌<◌, Bool, true, false, not, ◌&&◌, eqb, ltb, is_some, Some, None, Option, sym, refl, ap, ◌∙◌, arith}
+use Rattle.std.proofs.lemmas.Bool.{eqb-true, eq-eqb}
 use Rattle.std.proofs.lemmas.Bool.Decides.{nat_tests}
 use Rattle.sets.specs.declared.set.BoxSet.{BoxSet}
 use Rattle.sets.specs.Tests.{any}
-use Rattle.sets.specs.Masks.{member, set_of}
-use Rattle.sets.proofs.Counts.{any_ext}
+use Rattle.sets.specs.Masks.{bit, member, set_of}
+use Rattle.sets.proofs.Bits.{set_ext}
+use Rattle.sets.proofs.Counts.{any_ext, any_has, any_none}
 use Rattle.sets.proofs.Members.{member_is, member_below}
 use Rattle.wire.specs.Meaning.{Meaning, WellFormed, falling_set}
+use Rattle.rows.specs.Calls.{is_gone}
 
 module _ (m : Meaning) (w : WellFormed m) where
   -- who falls is of the company, and up
@@ -32,3 +35,21 @@ module _ (m : Meaning) (w : WellFormed m) where
       let a = member_is (λ q. ltb q m.n && not (member m.up q)) d e i l in
       let k = member_below m.n missing i within in
       grind (arith, nat_tests))
+
+  -- whether a box is down or falling
+  pub some_gone : (s e : BoxSet) → s ≡ set_of (λ q. ltb q m.n && is_gone m q) → e ≡ set_of (λ _. false) → any (is_gone m) m.n ≡ not (eqb s.mask e.mask)
+  some_gone s e is none = by (any (is_gone m) m.n) refl
+    where
+      named : (k : ℕ) × (k < m.n) × (is_gone m k ≡ true) → eqb s.mask e.mask ≡ false
+      named (k, l, g) =
+          let f = few in
+          let a = member_is (λ q. ltb q m.n && is_gone m q) s is k (omega arith) in
+          let b = member_is (λ _. false) e none k (omega arith) in
+          let same : eqb s.mask e.mask ≡ true → member s k ≡ member e k = λ t. ap (λ x. bit x k) (eqb-true s.mask e.mask t) in
+          grind (arith, nat_tests)
+
+      by : (t : Bool) → any (is_gone m) m.n ≡ t → any (is_gone m) m.n ≡ not (eqb s.mask e.mask)
+      by true is_so = is_so ∙ sym (ap not (named (any_has (is_gone m) m.n is_so)))
+      by false is_so =
+          let same = is ∙ set_ext (λ q. ltb q m.n && is_gone m q) (λ _. false) (λ i _. let a = any_none (is_gone m) m.n is_so i in grind (arith, nat_tests)) ∙ sym none in
+          is_so ∙ sym (ap not (eq-eqb s.mask e.mask (ap (λ x. x.mask) same)))

@@ -1,9 +1,10 @@
 // The making of a ringing: its checks, and the new boxes in the row.
-ghost use Rattle.std.specs.Prelude.{◌≡◌, map, length, OnOk, OnErr, true};
+ghost use Rattle.std.specs.Prelude.{◌≡◌, ◌<◌, map, length, set, OnOk, OnErr, true};
 ghost use Rattle.sets.specs.Companies.{company};
 ghost use Rattle.rows.specs.Places.{shown};
 ghost use Rattle.rows.specs.Calls.{making, first_row, answer};
 
+use super::check::gone;
 use boxes::Resting;
 use kinds::Kind;
 use numbers::Refusal;
@@ -12,6 +13,7 @@ use sets::{BoxNumber, BoxSet, is_company};
 use wire::Wire;
 
 // Whether a ringing may be made, for so many places and proposals, or why not.
+#[tactic(auto, unfolding(rows::specs::Calls::making))]
 fn check_making<W: Wire, K: Kind>(
     n: u32,
     t: u32,
@@ -27,11 +29,18 @@ fn check_making<W: Wire, K: Kind>(
     if row.len() != n as usize || proposals.len() != n as usize {
         return Err(Refusal::Row);
     }
-    let all_up = wire.up() == BoxSet::all_below(n) && wire.falling() == BoxSet::empty();
-    if wire.n() != n || !all_up {
+    if wire.n() != n || gone(wire) != BoxSet::empty() {
         return Err(Refusal::Wire);
     }
     Ok(())
+}
+
+// A function of its own, since the size of a place hangs on the kind of proposal.
+fn put<K: Kind>(row: &mut [Place<K>], p: usize, place: Place<K>)
+    requires { p < length row.old }
+    ensures { row.new ≡ set row.old p place }
+{
+    row[p] = place;
 }
 
 // Sets up a new box with its proposal in each place, if a ringing may be made.
@@ -49,7 +58,8 @@ pub(crate) fn set_up<W: Wire, K: Kind>(
 {
     check_making(n, t, wire, row, proposals)?;
     for (p, proposal) in proposals.iter().enumerate() {
-        row[p] = Place::Resting(Resting::new(BoxNumber(p as u32), n, t, *proposal)?);
+        let resting = Resting::new(BoxNumber(p as u32), n, t, *proposal)?;
+        put(row, p, Place::Resting(resting));
     }
     Ok(())
 }

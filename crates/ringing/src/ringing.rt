@@ -6,6 +6,7 @@ use super::make::set_up;
 use kinds::Kind;
 use numbers::Refusal;
 use rows::{Place, Standing};
+use runs::calls_follow;
 use sets::{BoxNumber, BoxSet};
 use wire::Wire;
 
@@ -19,11 +20,13 @@ pub struct Ringing<W: Wire> {
 }
 
 impl<W: Wire> Ringing<W> {
-    ghost use Rattle.std.specs.Prelude.{map, length, OnErr};
+    ghost use Rattle.std.specs.Prelude.{List, map, length, IfOk, OnErr};
     ghost use Rattle.std.specs.Result.{result_map_both, result_unwrap_or};
     ghost use Rattle.frames.specs.Faults.{map_fault};
     ghost use Rattle.rows.specs.Places.{shown};
     ghost use Rattle.rows.specs.Calls.{making, telling, asking, answer, or_kept};
+    ghost use Rattle.runs.specs.Runs.{Call, first_history, state_after, history_after};
+    ghost use Rattle.runs.specs.Theorems.{Follows};
     ghost use Rattle.ringing.specs.States.{state};
 
     // Makes a ringing of n boxes, of which t may fall, over a wire, and sets up a new box with its proposal in each place of the
@@ -37,7 +40,9 @@ impl<W: Wire> Ringing<W> {
     ) -> Result<Ringing<W>, (W, Refusal)>
         ensures ringing { result_map_both (λ r. state (W.meaning r.wire) r.t r.closed row.new) (λ e. e) result ≡ map_fault (λ e. (wire, e)) (making n t (W.meaning wire) (length row.old) proposals.now) }
         ensures refused { OnErr result (row.new ≡ row.old) }
+        ensures follows { IfOk (making n t (W.meaning wire) (length row.old) proposals.now) (λ s. (past_end : K) (calls : List Call) → Follows K.leads K.image (W.meaning wire).posted (state_after K.leads K.image calls s) (history_after K.leads K.image calls s (first_history n t proposals.now past_end))) }
     {
+        let _ = calls_follow::<K>();
         match set_up(n, t, &wire, row, proposals) {
             Ok(()) => Ok(Ringing { wire, t, closed: 0 }),
             Err(refusal) => Err((wire, refusal)),

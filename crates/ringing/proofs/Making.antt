@@ -1,0 +1,91 @@
+-- A ringing is made where the checks let it be: then each new box is one that there is. Assumes nothing.
+use Rattle.std.proofs.Common.{◌≡◌, ℕ, zero, suc, cond, ◌+◌, ◌<◌, Bool, true, false, not, ◌||◌, eqb, leb, ltb, List, [], ◌∷◌, length, map, set, Some, None, IfOk, Ok, Err, Option, Result, option_map, refl, sym, ap, ◌∙◌, below_more, arith}
+use Rattle.std.specs.Bool.{⊤}
+use Rattle.std.specs.List.{slice_get}
+use Rattle.std.proofs.lemmas.Bool.Decides.{nat_tests}
+use Rattle.std.proofs.lemmas.List.{length-map}
+use Rattle.std.proofs.lemmas.Option.{slice_get-map, slice_get_past}
+use Rattle.numbers.specs.declared.refusal.Refusal.{Refusal}
+use Rattle.sets.specs.Companies.{company}
+use Rattle.boxes.specs.declared.states.Held.{Held}
+use Rattle.boxes.specs.Boxes.{first_held, new_box}
+use Rattle.wire.specs.Meaning.{Meaning}
+use Rattle.rows.specs.declared.place.Place.{Place}
+use Rattle.rows.specs.Places.{Stand, at_rest, shown}
+use Rattle.rows.specs.Numbered.{by_number}
+use Rattle.rows.specs.Calls.{State, making, first_row, answer}
+use Rattle.rows.proofs.Numbered.{list_ext, get-by_number}
+
+-- what was checked
+pub record Makes {K : Type 0} (n t : ℕ) (m : Meaning) (places : ℕ) (proposals : List K) : Type 0 where
+  pub size : company n t ≡ true
+  pub places_are : places ≡ n
+  pub given : length proposals ≡ n
+  pub wire_n : m.n ≡ n
+  pub made : making n t m places proposals ≡ Ok (record { wire = m; t = t; closed = 0; row = first_row n t proposals })
+
+pub makes : {K : Type 0} (n t : ℕ) (m : Meaning) (places : ℕ) (proposals : List K) → Ok tt ≡ answer (making n t m places proposals) → Makes n t m places proposals
+unfolding making
+makes n t m places proposals e = record {
+  size = grind (arith, nat_tests);
+  places_are = grind (arith, nat_tests);
+  given = grind (arith, nat_tests);
+  wire_n = grind (arith, nat_tests);
+  made = grind (arith, nat_tests);
+}
+
+pub makes_not : {K : Type 0} (n t : ℕ) (m : Meaning) (places : ℕ) (proposals : List K) (e : Refusal) → Err e ≡ answer (making n t m places proposals) → making n t m places proposals ≡ Err e
+makes_not {K} n t m places proposals e is = by (making n t m places proposals) is
+  where
+    by : (r : Result (State K) Refusal) → Err e ≡ answer r → r ≡ Err e
+    by (Ok s) is = absurd (grind arith)
+    by (Err x) is = cc
+
+-- a box of the company is made
+pub box_made : {K : Type 0} (n t p : ℕ) (v : K) → company n t ≡ true → p < n → new_box (record { 0 = p }) n t v ≡ Ok (first_held (record { 0 = p }) n t v)
+box_made n t p v size l = grind (arith, nat_tests)
+
+-- a list with one element set
+pub get-set : {X : Type 0} (xs : List X) (p k : ℕ) (x : X) → p < length xs → slice_get (set xs p x) k ≡ cond (eqb k p) (Some x) (slice_get xs k)
+get-set [] p k x l = absurd (omega arith)
+get-set (y ∷ ys) zero zero x l = ap (λ t. cond t (Some x) (Some y)) (let e : true ≡ eqb 0 0 = grind (arith, nat_tests) in e)
+get-set (y ∷ ys) zero (suc k) x l = ap (λ t. cond t (Some x) (slice_get ys k)) (let e : false ≡ eqb (suc k) 0 = grind (arith, nat_tests) in e)
+get-set (y ∷ ys) (suc p) zero x l = ap (λ t. cond t (Some x) (Some y)) (let e : false ≡ eqb 0 (suc p) = grind (arith, nat_tests) in e)
+get-set (y ∷ ys) (suc p) (suc k) x l =
+    get-set ys p k x (omega arith) ∙ ap (λ t. cond t (Some x) (slice_get ys k)) (let e : eqb k p ≡ eqb (suc k) (suc p) = grind (arith, nat_tests) in e)
+
+pub held_made : {K : Type 0} (n t p : ℕ) (v : K) (b : Held K) → company n t ≡ true → p < n → Ok b ≡ new_box (record { 0 = p }) n t v → b ≡ first_held (record { 0 = p }) n t v
+held_made n t p v b size l e = let m = box_made n t p v size l in cc
+
+pub never_refused : {K A : Type 0} (n t p : ℕ) (v : K) (e : Refusal) → company n t ≡ true → p < n → Err e ≡ new_box (record { 0 = p }) n t v → A
+never_refused n t p v e size l is = absurd (let m = box_made n t p v size l in grind arith)
+
+module _ {K : Type 0} (n t : ℕ) (proposals : List K) where
+  -- what is to stand in a place
+  abbrev pub first : ℕ → Option (Stand K)
+  first k = option_map (λ v. at_rest (first_held (record { 0 = k }) n t v)) (slice_get proposals k)
+
+  -- one place more is filled
+  pub filled_more : (row : List (Place K)) (p : ℕ) (x : Place K) (v : K) → p < length row → slice_get proposals p ≡ Some v → shown x ≡ at_rest (first_held (record { 0 = p }) n t v)
+      → ((k : ℕ) → k < p → slice_get (map shown row) k ≡ first k) → (k : ℕ) → k < p + 1 → slice_get (map shown (set row p x)) k ≡ first k
+  filled_more row p x v l at is filled = below_more (λ k. slice_get (map shown (set row p x)) k ≡ first k) p
+      (λ k m. changed k ∙ ap (λ t. option_map shown (cond t (Some x) (slice_get row k))) (let e : eqb k p ≡ false = grind (arith, nat_tests) in e) ∙ sym (slice_get-map shown row k) ∙ filled k m)
+      (changed p ∙ ap (λ t. option_map shown (cond t (Some x) (slice_get row p))) (let e : eqb p p ≡ true = grind (arith, nat_tests) in e) ∙ ap Some is
+      ∙ sym (ap (option_map (λ v. at_rest (first_held (record { 0 = p }) n t v))) at))
+    where
+      changed : (k : ℕ) → slice_get (map shown (set row p x)) k ≡ option_map shown (cond (eqb k p) (Some x) (slice_get row k))
+      changed k = slice_get-map shown (set row p x) k ∙ ap (option_map shown) (get-set row p k x l)
+
+  -- all are
+  pub filled_all : (row : List (Place K)) → length row ≡ n → length proposals ≡ n → ((k : ℕ) → k < n → slice_get (map shown row) k ≡ first k) → map shown row ≡ first_row n t proposals
+  filled_all row len given filled = list_ext (map shown row) (first_row n t proposals) (λ k. by k (ltb k n) refl ∙ sym (get-by_number (λ p v. at_rest (first_held (record { 0 = p }) n t v)) proposals k))
+    where
+      by : (k : ℕ) (b : Bool) → ltb k n ≡ b → slice_get (map shown row) k ≡ first k
+      by k true e = filled k (grind (arith, nat_tests))
+      by k false e =
+          slice_get_past (map shown row) k (let s = length-map row shown in grind (arith, nat_tests))
+          ∙ sym (ap (option_map (λ v. at_rest (first_held (record { 0 = k }) n t v))) (slice_get_past proposals k (grind (arith, nat_tests))))
+
+pub if_made : {X E : Type 0} (P : X → Type 0) (r : Result X E) → ((x : X) → r ≡ Ok x → P x) → IfOk r P
+if_made P (Ok x) f = f x refl
+if_made P (Err e) f = tt

@@ -1,0 +1,28 @@
+use Rattle.std.proofs.Common.{◌≡◌, length, Ok, Err, IfOk, sym, ap, ◌∙◌, arith}
+use Rattle.frames.specs.Faults.{map_fault}
+use Rattle.rows.specs.Calls.{State, making}
+use Rattle.ringing.proofs.Making.{makes, makes_not, if_made}
+use Rattle.ringing.proofs.ringing.Ringing.make.Goals as goal
+
+pub returns-in-Ok-clause-ringing : goal.returns-in-Ok-clause-ringing
+returns-in-Ok-clause-ringing g c =
+    let m = g.W.Wire.meaning c.args.wire in
+    let k = makes c.args.n c.args.t m (length c.args.row.now) c.args.proposals.now c.in-Ok.ensures.answer in
+    ap (λ row. Ok (record { wire = m; t = c.args.t; closed = 0; row = row })) c.in-Ok.ensures.row ∙ sym (ap (map_fault (λ e. (c.args.wire, e))) k.made)
+
+pub returns-in-Err-clause-ringing : goal.returns-in-Err-clause-ringing
+returns-in-Err-clause-ringing g c =
+    let m = g.W.Wire.meaning c.args.wire in
+    sym (ap (map_fault (λ e. (c.args.wire, e))) (makes_not c.args.n c.args.t m (length c.args.row.now) c.args.proposals.now c.in-Err.refusal c.in-Err.ensures.answer))
+
+pub returns-in-Ok-clause-follows : goal.returns-in-Ok-clause-follows
+returns-in-Ok-clause-follows g c =
+    let m = g.W.Wire.meaning c.args.wire in
+    if_made _ (making c.args.n c.args.t m (length c.args.row.now) c.args.proposals.now) (λ s made.
+    c.calls_follow.ensures.follow c.args.n c.args.t (length c.args.row.now) m c.args.proposals.now s (g.met.W.Wire.formed c.args.wire) made)
+
+pub returns-in-Err-clause-follows : goal.returns-in-Err-clause-follows
+returns-in-Err-clause-follows g c =
+    let m = g.W.Wire.meaning c.args.wire in
+    if_made _ (making c.args.n c.args.t m (length c.args.row.now) c.args.proposals.now) (λ s made.
+    c.calls_follow.ensures.follow c.args.n c.args.t (length c.args.row.now) m c.args.proposals.now s (g.met.W.Wire.formed c.args.wire) made)
