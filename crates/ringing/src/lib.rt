@@ -2,9 +2,10 @@
 #![tactic(auto)]
 
 mod check;
+mod exchange;
 mod guard;
 mod make;
 mod ringing;
-mod round;
+
 
 pub use ringing::Ringing;

@@ -1,0 +1,77 @@
+-- What a box of the company hears of another, where there is room for a frame. Assumes nothing.
+use Rattle.std.proofs.Common.{◌≡◌, ℕ, ◌<◌, ◌≤◌, ◌+◌, Bool, true, false, cond, ◌||◌, leb, ltb, List, [], ◌∷◌, ◌++◌, length, take, drop, Some, None, Ok, Err, Option, option_map, Result, unwrap_or, refl, sym, ap, ◌∙◌, arith}
+use Rattle.std.specs.Bool.{⊤}
+use Rattle.std.specs.Result.{result_map_both, result_unwrap_or}
+use Rattle.std.proofs.lemmas.Bool.Decides.{nat_tests}
+use Rattle.std.proofs.Math.Seq.{take-append_seam}
+use Rattle.std.proofs.lemmas.List.{length-append, length-take-le}
+use Rattle.numbers.specs.declared.refusal.Refusal.{Refusal}
+use Rattle.numbers.specs.declared.refusal.Refusal.TheVariants as refusal
+use Rattle.numbers.specs.Refusals.{unless}
+use Rattle.numbers.specs.Numbers.{fronted}
+use Rattle.frames.specs.Frames.{longest_frame}
+use Rattle.wire.specs.Kept.{is_postable}
+use Rattle.wire.specs.Meaning.{Meaning, WellFormed, is_lost, heard, fetching, told, laid}
+use Rattle.sets.specs.declared.set.BoxSet.{BoxSet}
+
+module _ (m : Meaning) (w : WellFormed m) (p q : ℕ) where
+  -- what it hears is a frame that a wire takes
+  heard_short : (f : List ℕ) → heard m p q ≡ Some f → (1 ≤ length f) × (length f ≤ longest_frame)
+  heard_short f e = by (is_lost m p q) (m.posted q) refl e
+    where
+      by : (t : Bool) (o : Option (List ℕ)) → m.posted q ≡ o → cond t None o ≡ Some f → (1 ≤ length f) × (length f ≤ longest_frame)
+      by true o is e = absurd (grind arith)
+      by false o is e = let k = w.posted q f (is ∙ e) in let y = k.1 in (grind (arith, nat_tests), grind (arith, nat_tests))
+
+  fetching_is : (room : ℕ) → p < m.n → q < m.n → longest_frame ≤ room → fetching p q room m ≡ Ok (heard m p q)
+  unfolding fetching
+  fetching_is room l k r = by (heard m p q) heard_short
+    where
+      by : (o : Option (List ℕ)) → ((f : List ℕ) → o ≡ Some f → (1 ≤ length f) × (length f ≤ longest_frame))
+          → unless ((leb m.n p || leb m.n q, refusal.Stranger) ∷ (ltb room (length (unwrap_or o [])), refusal.Narrow) ∷ []) o ≡ Ok o
+      by None short = grind (arith, nat_tests)
+      by (Some f) short = let s = short f refl in grind (arith, nat_tests)
+
+  module _ (out new : List ℕ) (r : Result (Option ℕ) Refusal) (l : p < m.n) (k : q < m.n) (room : longest_frame ≤ length out)
+      (tells : r ≡ told (fetching p q (length out) m)) (lays : new ≡ laid (fetching p q (length out) m) out) where
+    tells_so : r ≡ Ok (option_map length (heard m p q))
+    tells_so = tells ∙ ap told (fetching_is (length out) l k room)
+
+    lays_so : new ≡ laid (Ok (heard m p q)) out
+    lays_so = lays ∙ ap (λ x. laid x out) (fetching_is (length out) l k room)
+
+    pub fetched_never : {A : Type 0} (e : Refusal) → r ≡ Err e → A
+    fetched_never e is = absurd (let t = tells_so in grind arith)
+
+    pub fetched_none : r ≡ Ok None → heard m p q ≡ None
+    fetched_none is = by (heard m p q) tells_so
+      where
+        by : (o : Option (List ℕ)) → r ≡ Ok (option_map length o) → o ≡ None
+        by None t = refl
+        by (Some f) t = absurd (grind arith)
+
+    pub fetched_some : (a : ℕ) → r ≡ Ok (Some a) → (a ≤ length new) × (heard m p q ≡ Some (take a new))
+    fetched_some a is = by (heard m p q) tells_so lays_so heard_short
+      where
+        by : (o : Option (List ℕ)) → r ≡ Ok (option_map length o) → new ≡ laid (Ok o) out → ((f : List ℕ) → o ≡ Some f → (1 ≤ length f) × (length f ≤ longest_frame))
+            → (a ≤ length new) × (o ≡ Some (take a new))
+        by None t n short = absurd (grind arith)
+        by (Some f) t n short =
+            let s = short f refl in
+            let same : length f ≡ a = cc in
+            let fits : leb (length f) (length out) ≡ true = grind (arith, nat_tests) in
+            let is_new : new ≡ f ++ drop (length f) out = n ∙ ap (λ b. cond b (f ++ drop (length f) out) out) fits in
+            let len : length new ≡ length f + length (drop (length f) out) = ap length is_new ∙ length-append f (drop (length f) out) in
+            (omega (arith, same, len), ap Some (sym (ap (λ x. take x new) (sym same) ∙ ap (take (length f)) is_new ∙ take-append_seam f (drop (length f) out))))
+
+pub taken_length : {X : Type 0} (n : ℕ) (xs : List X) → n ≤ length xs → n ≡ length (take n xs)
+taken_length n xs l = sym (length-take-le n xs l)
+
+-- refusals by another name
+pub told_again : {X E D : Type 0} (f : E → D) (r : Result X E) → result_map_both {U = ⊤} (λ _. tt) f r ≡ result_map_both (λ _. tt) (λ e. e) (result_map_both (λ n. n) f r)
+told_again f (Ok x) = refl
+told_again f (Err e) = refl
+
+pub kept_again : {X E D : Type 0} (f : E → D) (r : Result X E) (x : X) → result_unwrap_or r x ≡ result_unwrap_or (result_map_both (λ n. n) f r) x
+kept_again f (Ok y) x = refl
+kept_again f (Err e) x = refl

@@ -1,0 +1,67 @@
+// What the boxes exchange in a round: each that is up posts its frame, and each that is not falling hears the others and closes.
+ghost use Rattle.std.specs.Prelude.{◌≡◌, ℕ, ◌<◌, ◌≤◌, ◌==◌, List, length, map, true, false, Some, None, Ok, Option, option_map};
+ghost use Rattle.std.specs.List.{slice_get};
+ghost use Rattle.std.specs.Result.{result_map_both, result_unwrap_or};
+ghost use Rattle.sets.specs.Masks.{member};
+ghost use Rattle.frames.specs.declared.frame.Frame.{Frame};
+ghost use Rattle.frames.specs.Frames.{frame_bytes};
+ghost use Rattle.boxes.specs.Boxes.{frame_of};
+ghost use Rattle.boxes.specs.Faults.{refusal_of};
+ghost use Rattle.boxes.specs.Rounds.{hearing, outcome};
+ghost use Rattle.boxes.specs.Rule.{ruled_outcome};
+ghost use Rattle.wire.specs.Kept.{is_postable};
+ghost use Rattle.wire.specs.Meaning.{posting, heard, answer, or_kept};
+ghost use Rattle.rows.specs.declared.place.Place.TheVariants as place;
+ghost use Rattle.rows.specs.Places.{shown};
+ghost use Rattle.rows.specs.Numbered.{by_number};
+ghost use Rattle.rows.specs.Calls.{State, heard_by, stand_after, carried};
+ghost use Rattle.rows.specs.Theorems.{Goes};
+ghost use Rattle.ringing.specs.States.{state, Carries, told_notes};
+
+use boxes::{BoxFault, Closed, Listening, Resting};
+use frames::LONGEST_FRAME;
+use kinds::Kind;
+use numbers::Refusal;
+use rows::Place;
+use sets::{BoxNumber, RoundNumber};
+use wire::Wire;
+
+// A box at rest posts its frame.
+fn post_frame<W: Wire, K: Kind>(wire: &mut W, b: Resting<K>, line: &mut [u8]) -> Result<(), Refusal>
+    requires room { LONGEST_FRAME ≤ length line.old }
+    requires postable { is_postable (frame_bytes K.image (frame_of b.held)) ≡ true }
+    ensures answer { result ≡ answer (posting b.held.number.0 (frame_bytes K.image (frame_of b.held)) (W.meaning wire.old)) }
+    ensures meaning { W.meaning wire.new ≡ or_kept (W.meaning wire.old) (posting b.held.number.0 (frame_bytes K.image (frame_of b.held)) (W.meaning wire.old)) }
+{
+    let length = b.compose(line)?;
+    wire.post(b.number(), &line[..length])
+}
+
+// Tells a listening box what was posted.
+fn tell<K: Kind>(listening: &mut Listening<K>, frame: &[u8]) -> Result<(), Refusal>
+    ensures resting { listening.new.resting ≡ listening.old.resting }
+    ensures answer { result ≡ result_map_both (λ _. tt) refusal_of (hearing K.leads K.SIZE K.named listening.old.resting.held listening.old.notes frame.now) }
+    ensures notes { listening.new.notes ≡ result_unwrap_or (hearing K.leads K.SIZE K.named listening.old.resting.held listening.old.notes frame.now) listening.old.notes }
+{
+    listening.hear(frame).map_err(BoxFault::refusal)
+}
+
+// Lets a listening box hear box q.
+fn hear_box<W: Wire, K: Kind>(
+    wire: &W,
+    listening: &mut Listening<K>,
+    q: BoxNumber,
+    line: &mut [u8],
+) -> Result<(), Refusal>
+    requires room { LONGEST_FRAME ≤ length line.old }
+    requires hearer { listening.old.resting.held.number.0 < (W.meaning wire.now).n }
+    requires sender { q.0 < (W.meaning wire.now).n }
+    ensures resting { listening.new.resting ≡ listening.old.resting }
+    ensures answer { result ≡ result_map_both (λ _. tt) (λ e. e) (told_notes K.leads K.SIZE K.named listening.old.resting.held listening.old.notes (heard (W.meaning wire.now) listening.old.resting.held.number.0 q.0)) }
+    ensures notes { listening.new.notes ≡ result_unwrap_or (told_notes K.leads K.SIZE K.named listening.old.resting.held listening.old.notes (heard (W.meaning wire.now) listening.old.resting.held.number.0 q.0)) listening.old.notes }
+{
+    match wire.fetch(listening.number(), q, line)? {
+        Some(length) => tell(listening, &line[..length]),
+        None => Ok(()),
+    }
+}
