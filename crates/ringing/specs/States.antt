@@ -12,6 +12,7 @@ use Rattle.wire.specs.Meaning.{Meaning}
 use Rattle.rows.specs.declared.place.Place.{Place}
 use Rattle.rows.specs.Places.{shown}
 use Rattle.rows.specs.Calls.{State, sent}
+use Rattle.rows.specs.Theorems.{Goes}
 
 -- by the meaning of its wire, its t and closed rounds, and the row
 abbrev pub state : {K : Type 0} → Meaning → ℕ → ℕ → List (Place K) → State K
@@ -20,6 +21,12 @@ state m t closed row = record { wire = m; t = t; closed = closed; row = map show
 -- each box that is up has posted its frame, and no other
 abbrev pub Carries : {K : Type 0} → (K → List ℕ) → State K → Type 0
 Carries image s = (q : ℕ) → s.wire.posted q ≡ cond (member s.wire.up q) (option_map (frame_bytes image) (sent s q)) None
+
+-- the wire is in a round of this state, in which nothing is refused and each box that is up has posted its frame
+pub record InRound {K : Type 0} (leads : K → K → Bool) (size : ℕ) (named : List ℕ → Option K) (image : K → List ℕ) (m : Meaning) (s : State K) : Type 0 where
+  pub wire : s.wire ≡ m
+  pub goes : Goes leads size named image s
+  pub carries : Carries image s
 
 -- ---- hearing one box
 

@@ -2,23 +2,20 @@
 ghost use Rattle.std.specs.Prelude.{◌≡◌, ℕ, ◌<◌, ◌≤◌, ◌==◌, List, length, map, true, false, Some, None, Ok, Option, option_map};
 ghost use Rattle.std.specs.List.{slice_get};
 ghost use Rattle.std.specs.Result.{result_map_both, result_unwrap_or};
-ghost use Rattle.sets.specs.Masks.{member};
 ghost use Rattle.frames.specs.declared.frame.Frame.{Frame};
 ghost use Rattle.frames.specs.Frames.{frame_bytes};
 ghost use Rattle.boxes.specs.Boxes.{frame_of};
 ghost use Rattle.boxes.specs.Faults.{refusal_of};
 ghost use Rattle.boxes.specs.Rounds.{hearing, outcome};
 ghost use Rattle.boxes.specs.Rule.{ruled_outcome};
-ghost use Rattle.wire.specs.Kept.{is_postable};
 ghost use Rattle.wire.specs.Meaning.{posting, heard, answer, or_kept};
 ghost use Rattle.rows.specs.declared.place.Place.TheVariants as place;
-ghost use Rattle.rows.specs.Places.{shown};
-ghost use Rattle.rows.specs.Numbered.{by_number};
-ghost use Rattle.rows.specs.Calls.{State, heard_by, stand_after, carried};
+ghost use Rattle.rows.specs.Places.{at_rest, shown};
+ghost use Rattle.rows.specs.Calls.{State, heard_by, coming, stand_after, carried};
 ghost use Rattle.rows.specs.Theorems.{Goes};
-ghost use Rattle.ringing.specs.States.{state, Carries, told_notes};
+ghost use Rattle.ringing.specs.States.{InRound, told_notes};
 
-use boxes::{BoxFault, Closed, Listening, Resting};
+use boxes::{BoxFault, Closed, Listening, Resting, boxes_stand};
 use frames::LONGEST_FRAME;
 use kinds::Kind;
 use numbers::Refusal;
@@ -29,10 +26,10 @@ use wire::Wire;
 // A box at rest posts its frame.
 fn post_frame<W: Wire, K: Kind>(wire: &mut W, b: Resting<K>, line: &mut [u8]) -> Result<(), Refusal>
     requires room { LONGEST_FRAME ≤ length line.old }
-    requires postable { is_postable (frame_bytes K.image (frame_of b.held)) ≡ true }
     ensures answer { result ≡ answer (posting b.held.number.0 (frame_bytes K.image (frame_of b.held)) (W.meaning wire.old)) }
     ensures meaning { W.meaning wire.new ≡ or_kept (W.meaning wire.old) (posting b.held.number.0 (frame_bytes K.image (frame_of b.held)) (W.meaning wire.old)) }
 {
+    let _ = boxes_stand::<K>();
     let length = b.compose(line)?;
     wire.post(b.number(), &line[..length])
 }
@@ -63,5 +60,49 @@ fn hear_box<W: Wire, K: Kind>(
     match wire.fetch(listening.number(), q, line)? {
         Some(length) => tell(listening, &line[..length]),
         None => Ok(()),
+    }
+}
+
+// A box opens the round, hears every other box and closes.
+fn close_box<W: Wire, K: Kind>(wire: &W, b: Resting<K>, line: &mut [u8]) -> Result<Closed<K>, Refusal>
+    requires room { LONGEST_FRAME ≤ length line.old }
+    requires placed { b.held.number.0 < (W.meaning wire.now).n }
+    ensures { (s : State K) → InRound K.leads K.SIZE K.named K.image (W.meaning wire.now) s → slice_get s.row b.held.number.0 ≡ Some (at_rest b.held) → result_map_both outcome (λ e. e) result ≡ Ok (ruled_outcome K.leads b.held (heard_by s b.held.number.0)) }
+{
+    let mut listening = b.open();
+    for q in 0..wire.n() {
+        if q != b.number().0 {
+            hear_box(wire, &mut listening, BoxNumber(q), line)?;
+        }
+    }
+    match listening.close() {
+        Ok(closed) => Ok(closed),
+        Err((_, fault)) => Err(fault.refusal()),
+    }
+}
+
+// Each box at rest posts its frame.
+pub(crate) fn post_frames<W: Wire, K: Kind>(wire: &mut W, row: &[Place<K>], line: &mut [u8]) -> Result<(), Refusal>
+    requires room { LONGEST_FRAME ≤ length line.old }
+    ensures { (s : State K) → s.wire ≡ W.meaning wire.old → s.row ≡ map shown row.now → Goes K.leads K.SIZE K.named K.image s → ((q : ℕ) → s.wire.posted q ≡ None) → (result ≡ Ok tt) × (W.meaning wire.new ≡ carried K.image s) }
+{
+    for place in row {
+        if let Place::Resting(b) = place {
+            post_frame(wire, *b, line)?;
+        }
+    }
+    Ok(())
+}
+
+// What stands at a place after the round: a box that falls is down since it, and another has closed it.
+fn place_after<W: Wire, K: Kind>(wire: &W, round: RoundNumber, place: Place<K>, line: &mut [u8]) -> Result<Place<K>, Refusal>
+    requires room { LONGEST_FRAME ≤ length line.old }
+    requires placed { (b : Resting K) → place ≡ place.Resting b → b.held.number.0 < (W.meaning wire.now).n }
+    ensures { (s : State K) (p : ℕ) → InRound K.leads K.SIZE K.named K.image (W.meaning wire.now) s → round ≡ coming s → slice_get s.row p ≡ Some (shown place) → result_map_both shown (λ e. e) result ≡ Ok (stand_after K.leads s p (shown place)) }
+{
+    match place {
+        Place::Resting(b) if wire.falling().contains(b.number()) => Ok(Place::Down(round)),
+        Place::Resting(b) => Ok(close_box(wire, b, line)?.into()),
+        Place::Down(_) | Place::Rung(_) => Ok(place),
     }
 }

@@ -179,7 +179,7 @@ pub round_goes : {K : Type 0} (leads : K → K → Bool) (size : ℕ) (named : L
 round_goes leads size named image short composed s row is formed size_ok good still = record {
   places = places s row is good;
   ahead = rounds_left leads s row is formed good still size_ok;
-  own = λ p b at. (rests_at s row is good p b at).number;
+  own = λ p b at. let r = rests_at s row is good p b at in (r.number, r.n, r.is_up);
   posts = λ p b at. posts_by leads s row is formed good still p b at size named image short;
   hears = λ p q b f at came m new. hears_by leads s row is formed good still p b at size named image composed q f came m new;
   closes = λ p b at. closes_by leads s row is formed good still p b at;

@@ -20,12 +20,12 @@ use Rattle.rows.specs.Calls.{State, bad_row, over, heard_by}
 abbrev pub RowDetermined : Type 0 → Type 0
 RowDetermined K = (xs ys : List (Place K)) → map shown xs ≡ map shown ys → xs ≡ ys
 
--- what a round may rely on: there are n places, and each box at rest stands at its own; no more than t rounds are closed; a wire takes the frame of each; a box hears each
+-- what a round may rely on: there are n places, and each box at rest stands at its own, is of the company and up; no more than t rounds are closed; a wire takes the frame of each; a box hears each
 -- frame that reaches it, if it has not heard that sender before; and its tally is not refused
 pub record Goes {K : Type 0} (leads : K → K → Bool) (size : ℕ) (named : List ℕ → Option K) (image : K → List ℕ) (s : State K) : Type 0 where
   pub places : length s.row ≡ s.wire.n
   pub ahead : s.closed ≤ s.t
-  pub own : (p : ℕ) (b : Held K) → slice_get s.row p ≡ Some (at_rest b) → b.number.0 ≡ p
+  pub own : (p : ℕ) (b : Held K) → slice_get s.row p ≡ Some (at_rest b) → (b.number.0 ≡ p) × (b.n ≡ s.wire.n) × (member s.wire.up p ≡ true)
   pub posts : (p : ℕ) (b : Held K) → slice_get s.row p ≡ Some (at_rest b) → is_postable (frame_bytes image (frame_of b)) ≡ true
   pub hears : (p q : ℕ) (b : Held K) (f : Frame K) → slice_get s.row p ≡ Some (at_rest b) → heard_by s p q ≡ Some f
       → (m : Notes K) → member m.heard q ≡ false → hearing leads size named b m (frame_bytes image f) ≡ Ok (noted leads m f)
