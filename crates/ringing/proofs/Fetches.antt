@@ -32,26 +32,35 @@ module _ (m : Meaning) (w : WellFormed m) (p q : ℕ) where
       by None short = grind (arith, nat_tests)
       by (Some f) short = let s = short f refl in grind (arith, nat_tests)
 
-  module _ (out new : List ℕ) (r : Result (Option ℕ) Refusal) (l : p < m.n) (k : q < m.n) (room : longest_frame ≤ length out)
+  -- who is answered is of the company
+  placed_by : (room : ℕ) (x : Option ℕ) → told (fetching p q room m) ≡ Ok x → p < m.n
+  unfolding fetching
+  placed_by room x e = by (leb m.n p) refl
+    where
+      by : (t : Bool) → leb m.n p ≡ t → p < m.n
+      by true is = absurd (grind arith)
+      by false is = grind (arith, nat_tests)
+
+  module _ (out new : List ℕ) (r : Result (Option ℕ) Refusal) (k : q < m.n) (room : longest_frame ≤ length out)
       (tells : r ≡ told (fetching p q (length out) m)) (lays : new ≡ laid (fetching p q (length out) m) out) where
-    tells_so : r ≡ Ok (option_map length (heard m p q))
-    tells_so = tells ∙ ap told (fetching_is (length out) l k room)
+    tells_so : p < m.n → r ≡ Ok (option_map length (heard m p q))
+    tells_so l = tells ∙ ap told (fetching_is (length out) l k room)
 
-    lays_so : new ≡ laid (Ok (heard m p q)) out
-    lays_so = lays ∙ ap (λ x. laid x out) (fetching_is (length out) l k room)
+    lays_so : p < m.n → new ≡ laid (Ok (heard m p q)) out
+    lays_so l = lays ∙ ap (λ x. laid x out) (fetching_is (length out) l k room)
 
-    pub fetched_never : {A : Type 0} (e : Refusal) → r ≡ Err e → A
-    fetched_never e is = absurd (let t = tells_so in grind arith)
+    pub fetched_never : (e : Refusal) → p < m.n → r ≡ Err e → ⊥
+    fetched_never e l is = let t = tells_so l in grind arith
 
     pub fetched_none : r ≡ Ok None → heard m p q ≡ None
-    fetched_none is = by (heard m p q) tells_so
+    fetched_none is = by (heard m p q) (tells_so (placed_by (length out) None (sym tells ∙ is)))
       where
         by : (o : Option (List ℕ)) → r ≡ Ok (option_map length o) → o ≡ None
         by None t = refl
         by (Some f) t = absurd (grind arith)
 
     pub fetched_some : (a : ℕ) → r ≡ Ok (Some a) → (a ≤ length new) × (heard m p q ≡ Some (take a new))
-    fetched_some a is = by (heard m p q) tells_so lays_so heard_short
+    fetched_some a is = let l = placed_by (length out) (Some a) (sym tells ∙ is) in by (heard m p q) (tells_so l) (lays_so l) heard_short
       where
         by : (o : Option (List ℕ)) → r ≡ Ok (option_map length o) → new ≡ laid (Ok o) out → ((f : List ℕ) → o ≡ Some f → (1 ≤ length f) × (length f ≤ longest_frame))
             → (a ≤ length new) × (o ≡ Some (take a new))

@@ -153,9 +153,17 @@ module _ {K : Type 0} (leads : K → K → Bool) (total : (x y : K) → (leads x
             subst (Shows leads b (noted leads m f)) (λ j i. more f e sender i j)
             (goes_on leads total transitive antisymmetric b m (below q) shows f (let n = itself_up.0 in let e = ap (λ x. x.n) r.wire in omega arith) (ap (λ i. is_some (below q i)) sender ∙ new)))
 
+    own_placed : (x : Resting K) → x ≡ b → x.held.number.0 < w.n
+    own_placed x e =
+        let l = slice_get_within s.row p (at_rest b.held) at in
+        let n = goes.places in
+        let k = ap (λ x. x.n) r.wire in
+        let same = ap (λ y. y.held.number.0) e in
+        omega arith
+
     -- the same of a box that is known to be it
-    pub tells_more : (x : Resting K) → x ≡ b → (n : Notes K) × (told_notes leads size named x.held m (heard w x.held.number.0 q) ≡ Ok n) × Shows leads b n (below (q + 1))
-    tells_more x e = (hears_more.0, ap (λ y. told_notes leads size named y.held m (heard w y.held.number.0 q)) e ∙ hears_more.1, hears_more.2)
+    pub tells_more : (x : Resting K) → x ≡ b → (n : Notes K) × (x.held.number.0 < w.n) × (told_notes leads size named x.held m (heard w x.held.number.0 q) ≡ Ok n) × Shows leads b n (below (q + 1))
+    tells_more x e = (hears_more.0, own_placed x e, ap (λ y. told_notes leads size named y.held m (heard w y.held.number.0 q)) e ∙ hears_more.1, hears_more.2)
 
   -- when all were heard it closes as the rule says
   pub closes_so : (m : Notes K) → Shows leads b m (below w.n) → closing b.held m ≡ Ok (ruled_outcome leads b.held (heard_by s p))

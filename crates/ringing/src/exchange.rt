@@ -51,11 +51,10 @@ fn hear_box<W: Wire, K: Kind>(
     line: &mut [u8],
 ) -> Result<(), Refusal>
     requires room { LONGEST_FRAME ≤ length line.old }
-    requires hearer { listening.old.resting.held.number.0 < (W.meaning wire.now).n }
     requires sender { q.0 < (W.meaning wire.now).n }
     ensures resting { listening.new.resting ≡ listening.old.resting }
-    ensures answer { result ≡ result_map_both (λ _. tt) (λ e. e) (told_notes K.leads K.SIZE K.named listening.old.resting.held listening.old.notes (heard (W.meaning wire.now) listening.old.resting.held.number.0 q.0)) }
-    ensures notes { listening.new.notes ≡ result_unwrap_or (told_notes K.leads K.SIZE K.named listening.old.resting.held listening.old.notes (heard (W.meaning wire.now) listening.old.resting.held.number.0 q.0)) listening.old.notes }
+    ensures answer { listening.old.resting.held.number.0 < (W.meaning wire.now).n → result ≡ result_map_both (λ _. tt) (λ e. e) (told_notes K.leads K.SIZE K.named listening.old.resting.held listening.old.notes (heard (W.meaning wire.now) listening.old.resting.held.number.0 q.0)) }
+    ensures notes { listening.old.resting.held.number.0 < (W.meaning wire.now).n → listening.new.notes ≡ result_unwrap_or (told_notes K.leads K.SIZE K.named listening.old.resting.held listening.old.notes (heard (W.meaning wire.now) listening.old.resting.held.number.0 q.0)) listening.old.notes }
 {
     match wire.fetch(listening.number(), q, line)? {
         Some(length) => tell(listening, &line[..length]),
@@ -66,7 +65,6 @@ fn hear_box<W: Wire, K: Kind>(
 // A box opens the round, hears every other box and closes.
 fn close_box<W: Wire, K: Kind>(wire: &W, b: Resting<K>, line: &mut [u8]) -> Result<Closed<K>, Refusal>
     requires room { LONGEST_FRAME ≤ length line.old }
-    requires placed { b.held.number.0 < (W.meaning wire.now).n }
     ensures { (s : State K) → InRound K.leads K.SIZE K.named K.image (W.meaning wire.now) s → slice_get s.row b.held.number.0 ≡ Some (at_rest b.held) → result_map_both outcome (λ e. e) result ≡ Ok (ruled_outcome K.leads b.held (heard_by s b.held.number.0)) }
 {
     let mut listening = b.open();
@@ -97,7 +95,6 @@ pub(crate) fn post_frames<W: Wire, K: Kind>(wire: &mut W, row: &[Place<K>], line
 // What stands at a place after the round: a box that falls is down since it, and another has closed it.
 fn place_after<W: Wire, K: Kind>(wire: &W, round: RoundNumber, place: Place<K>, line: &mut [u8]) -> Result<Place<K>, Refusal>
     requires room { LONGEST_FRAME ≤ length line.old }
-    requires placed { (b : Resting K) → place ≡ place.Resting b → b.held.number.0 < (W.meaning wire.now).n }
     ensures { (s : State K) (p : ℕ) → InRound K.leads K.SIZE K.named K.image (W.meaning wire.now) s → round ≡ coming s → slice_get s.row p ≡ Some (shown place) → result_map_both shown (λ e. e) result ≡ Ok (stand_after K.leads s p (shown place)) }
 {
     match place {

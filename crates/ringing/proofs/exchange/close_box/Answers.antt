@@ -27,7 +27,7 @@ returns-in_err-hear_box g c = λ s r at.
     let other : c.loop-q.q ≡ b.held.number.0 → ⊥ = λ e. c.if-q-number.true (e ∙ sym (ap (λ x. x.0) c.number.ensures)) in
     let more = tells_more k.leads m.total m.transitive m.antisymmetric k.SIZE k.named k.image (g.W.Wire.meaning c.args.wire.now) (g.met.W.Wire.formed c.args.wire.now) s r b at
         c.loop-q.q l.notes (omega (arith, c.n-q-end.ensures)) other (c.loop-q.invariant.1 s r at) l.resting c.loop-q.invariant.0 in
-    let ok : c.hear_box.result ≡ Ok tt = c.hear_box.ensures.answer ∙ ap (result_map_both (λ _. tt) (λ e. e)) more.1 in
+    let ok : c.hear_box.result ≡ Ok tt = c.hear_box.ensures.answer more.1 ∙ ap (result_map_both (λ _. tt) (λ e. e)) more.2 in
     absurd (grind (arith, ok, c.in_err-hear_box.was))
 
 pub loop-q-preserved : goal.loop-q-preserved
@@ -43,7 +43,7 @@ loop-q-preserved g c =
       λ s r at.
       let more = tells_more k.leads m.total m.transitive m.antisymmetric k.SIZE k.named k.image (g.W.Wire.meaning c.args.wire.now) (g.met.W.Wire.formed c.args.wire.now) s r b at
           c.loop-q.q l.notes (omega (arith, c.n-q-end.ensures)) other (c.loop-q.invariant.1 s r at) l.resting c.loop-q.invariant.0 in
-      subst (λ n. Shows k.leads b n (heard_below s b.held.number.0 (c.loop-q.q + 1))) (sym (ap (λ x. x.notes) w.listening-is ∙ w.hear_box.ensures.notes ∙ ap (λ r. result_unwrap_or r l.notes) more.1)) more.2))
+      subst (λ n. Shows k.leads b n (heard_below s b.held.number.0 (c.loop-q.q + 1))) (sym (ap (λ x. x.notes) w.listening-is ∙ w.hear_box.ensures.notes more.1 ∙ ap (λ r. result_unwrap_or r l.notes) more.2)) more.3))
     | else-q-number w ↦ (
       (ap (λ x. x.resting) w.listening-is ∙ c.loop-q.invariant.0,
       λ s r at. subst (λ n. Shows k.leads b n (heard_below s b.held.number.0 (c.loop-q.q + 1))) (sym (ap (λ x. x.notes) w.listening-is))

@@ -11,23 +11,22 @@ use Rattle.ringing.proofs.exchange.hear_box.Goals as goal
 pub returns-in_err-length : goal.returns-in_err-length
 returns-in_err-length g c =
     let m = g.W.Wire.meaning c.args.wire.now in
-    let p : c.number.result.0 < m.n = omega (arith, c.requires.hearer, ap (λ x. x.0) c.number.ensures) in
-    fetched_never m (g.met.W.Wire.formed c.args.wire.now) c.number.result.0 c.args.q.0 c.args.line.now c.fetch.new.out c.fetch.result p c.requires.sender c.requires.room
-    c.fetch.ensures.answer c.fetch.ensures.bytes c.in_err-length.field-0.0 c.in_err-length.was
+    let never = λ (l : c.args.listening.now.resting.held.number.0 < m.n).
+        fetched_never m (g.met.W.Wire.formed c.args.wire.now) c.number.result.0 c.args.q.0 c.args.line.now c.fetch.new.out c.fetch.result c.requires.sender c.requires.room
+        c.fetch.ensures.answer c.fetch.ensures.bytes c.in_err-length.field-0.0 (omega (arith, l, ap (λ x. x.0) c.number.ensures)) c.in_err-length.was in
+    record { resting = refl; answer = λ l. absurd (never l); notes = λ l. absurd (never l) }
 
 pub slice_bounds-tell-end : goal.slice_bounds-tell-end
 slice_bounds-tell-end g c =
     let m = g.W.Wire.meaning c.args.wire.now in
-    let p : c.number.result.0 < m.n = omega (arith, c.requires.hearer, ap (λ x. x.0) c.number.ensures) in
-    let f = fetched_some m (g.met.W.Wire.formed c.args.wire.now) c.number.result.0 c.args.q.0 c.args.line.now c.fetch.new.out c.fetch.result p c.requires.sender c.requires.room
+    let f = fetched_some m (g.met.W.Wire.formed c.args.wire.now) c.number.result.0 c.args.q.0 c.args.line.now c.fetch.new.out c.fetch.result c.requires.sender c.requires.room
         c.fetch.ensures.answer c.fetch.ensures.bytes c.in-Some.length (c.in_ok-length.was ∙ ap Ok c.in-Some.is) in
     f.0
 
 pub slice_bounds-tell-end-in-Some : goal.slice_bounds-tell-end-in-Some
 slice_bounds-tell-end-in-Some g c =
     let m = g.W.Wire.meaning c.args.wire.now in
-    let p : c.number.result.0 < m.n = omega (arith, c.requires.hearer, ap (λ x. x.0) c.number.ensures) in
-    let f = fetched_some m (g.met.W.Wire.formed c.args.wire.now) c.number.result.0 c.args.q.0 c.args.line.now c.fetch.new.out c.fetch.result p c.requires.sender c.requires.room
+    let f = fetched_some m (g.met.W.Wire.formed c.args.wire.now) c.number.result.0 c.args.q.0 c.args.line.now c.fetch.new.out c.fetch.result c.requires.sender c.requires.room
         c.fetch.ensures.answer c.fetch.ensures.bytes c.in-Some.length (c.in_ok-length.was ∙ ap Ok c.in-Some.is) in
     taken_length c.in-Some.length c.fetch.new.out f.0
 
@@ -36,15 +35,14 @@ returns-in-Some g c =
     let m = g.W.Wire.meaning c.args.wire.now in
     let l = c.args.listening.now in
     let k = g.K.Kind in
-    let p : c.number.result.0 < m.n = omega (arith, c.requires.hearer, ap (λ x. x.0) c.number.ensures) in
-    let f = fetched_some m (g.met.W.Wire.formed c.args.wire.now) c.number.result.0 c.args.q.0 c.args.line.now c.fetch.new.out c.fetch.result p c.requires.sender c.requires.room
+    let f = fetched_some m (g.met.W.Wire.formed c.args.wire.now) c.number.result.0 c.args.q.0 c.args.line.now c.fetch.new.out c.fetch.result c.requires.sender c.requires.room
         c.fetch.ensures.answer c.fetch.ensures.bytes c.in-Some.length (c.in_ok-length.was ∙ ap Ok c.in-Some.is) in
     let told = ap (told_notes k.leads k.SIZE k.named l.resting.held l.notes) (ap (λ x. heard m x.0 c.args.q.0) (sym c.number.ensures) ∙ f.1) in
     let h = hearing k.leads k.SIZE k.named l.resting.held l.notes (take c.in-Some.length c.fetch.new.out) in
     record {
       resting = c.tell.ensures.resting;
-      answer = c.tell.ensures.answer ∙ told_again refusal_of h ∙ sym (ap (result_map_both (λ _. tt) (λ e. e)) told);
-      notes = c.tell.ensures.notes ∙ kept_again refusal_of h l.notes ∙ sym (ap (λ r. result_unwrap_or r l.notes) told);
+      answer = λ _. c.tell.ensures.answer ∙ told_again refusal_of h ∙ sym (ap (result_map_both (λ _. tt) (λ e. e)) told);
+      notes = λ _. c.tell.ensures.notes ∙ kept_again refusal_of h l.notes ∙ sym (ap (λ r. result_unwrap_or r l.notes) told);
     }
 
 pub returns-in-None : goal.returns-in-None
@@ -52,8 +50,7 @@ returns-in-None g c =
     let m = g.W.Wire.meaning c.args.wire.now in
     let l = c.args.listening.now in
     let k = g.K.Kind in
-    let p : c.number.result.0 < m.n = omega (arith, c.requires.hearer, ap (λ x. x.0) c.number.ensures) in
-    let f = fetched_none m (g.met.W.Wire.formed c.args.wire.now) c.number.result.0 c.args.q.0 c.args.line.now c.fetch.new.out c.fetch.result p c.requires.sender c.requires.room
+    let f = fetched_none m (g.met.W.Wire.formed c.args.wire.now) c.number.result.0 c.args.q.0 c.args.line.now c.fetch.new.out c.fetch.result c.requires.sender c.requires.room
         c.fetch.ensures.answer c.fetch.ensures.bytes (c.in_ok-length.was ∙ ap Ok c.in-None.is) in
     let told = ap (told_notes k.leads k.SIZE k.named l.resting.held l.notes) (ap (λ x. heard m x.0 c.args.q.0) (sym c.number.ensures) ∙ f) in
-    record { resting = refl; answer = sym (ap (result_map_both (λ _. tt) (λ e. e)) told); notes = sym (ap (λ r. result_unwrap_or r l.notes) told) }
+    record { resting = refl; answer = λ _. sym (ap (result_map_both (λ _. tt) (λ e. e)) told); notes = λ _. sym (ap (λ r. result_unwrap_or r l.notes) told) }

@@ -1,0 +1,108 @@
+-- The boxes at rest post their frames one after another. Assumes nothing.
+use Rattle.std.proofs.Common.{◌≡◌, ℕ, ◌+◌, ◌<◌, ◌≤◌, Bool, true, false, cond, not, ◌&&◌, ◌||◌, eqb, leb, ltb, ◌⊎◌, List, length, map, get_or, is_some, Some, None, Ok, Option, option_map, Result, refl, sym, ap, ◌∙◌, inl, inr, arith}
+use Rattle.std.specs.List.{slice_get}
+use Rattle.std.proofs.lemmas.Bool.{cases_Bool, cases_eq, eqb-true}
+use Rattle.std.proofs.lemmas.Bool.Decides.{nat_tests}
+use Rattle.std.proofs.lemmas.Option.{slice_get_within, slice_get_read, slice_get-map}
+use Rattle.numbers.specs.declared.refusal.Refusal.{Refusal}
+use Rattle.sets.specs.declared.set.BoxSet.{BoxSet}
+use Rattle.sets.specs.Masks.{member}
+use Rattle.frames.specs.declared.frame.Frame.{Frame}
+use Rattle.frames.specs.Frames.{frame_bytes}
+use Rattle.boxes.specs.declared.states.Held.{Held}
+use Rattle.boxes.specs.declared.states.Resting.{Resting}
+use Rattle.boxes.specs.Boxes.{frame_of}
+use Rattle.wire.specs.Kept.{is_postable}
+use Rattle.wire.specs.Meaning.{Meaning, carrying, posting}
+use Rattle.rows.specs.declared.place.Place.{Place}
+use Rattle.rows.specs.declared.place.Place.TheVariants as place
+use Rattle.rows.specs.Places.{Stand, at_rest, down, rung, shown}
+use Rattle.rows.specs.Calls.{State, frame_at, sent, carried}
+use Rattle.rows.specs.Theorems.{Goes}
+
+-- what stands at a place that was read
+pub stands_at : {K : Type 0} (stands : List (Stand K)) (row : List (Place K)) → stands ≡ map shown row → (i : ℕ) (x : Place K) → i < length row → x ≡ get_or row i x → slice_get stands i ≡ Some (shown x)
+stands_at stands row is i x l e = ap (λ r. slice_get r i) is ∙ slice_get-map shown row i ∙ ap (option_map shown) (slice_get_read row (length row) i x refl l e)
+
+pub not_resting : {K : Type 0} (x : Place K) → ((b : Resting K) → x ≡ place.Resting b → ⊥) → frame_at (Some (shown x)) ≡ None
+not_resting (place.Resting b) other = absurd (other b refl)
+not_resting (place.Down r) other = refl
+not_resting (place.Rung x) other = refl
+
+posts_ok : (q : ℕ) (f : List ℕ) (m : Meaning) → q < m.n → member m.up q ≡ true → is_some (m.posted q) ≡ false → is_postable f ≡ true → posting q f m ≡ Ok (carrying q f m)
+unfolding posting
+posts_ok q f m l up new fits = grind (arith, nat_tests)
+
+module _ {K : Type 0} (leads : K → K → Bool) (size : ℕ) (named : List ℕ → Option K) (image : K → List ℕ) (s : State K) (goes : Goes leads size named image s)
+    (none : (q : ℕ) → s.wire.posted q ≡ None) where
+  -- the wire when the boxes below m have posted
+  abbrev pub posted_below : ℕ → Meaning
+  posted_below m = record s.wire { posted = λ q. cond (ltb q m) (option_map (frame_bytes image) (sent s q)) None }
+
+  pub nobody_yet : s.wire ≡ posted_below 0
+  nobody_yet = λ j. record s.wire { posted = λ q. (none q ∙ ap (λ t. cond t (option_map (frame_bytes image) (sent s q)) None) (let e : false ≡ ltb q 0 = grind (arith, nat_tests) in e)) j }
+
+  -- a box that is not at rest posts nothing
+  pub none_more : (i : ℕ) → frame_at (slice_get s.row i) ≡ None → posted_below i ≡ posted_below (i + 1)
+  none_more i e = λ j. record s.wire { posted = λ q. at q (cases_eq q i) j }
+    where
+      at : (q : ℕ) → (q ≡ i) ⊎ (q ≡ i → ⊥) → cond (ltb q i) (option_map (frame_bytes image) (sent s q)) None ≡ cond (ltb q (i + 1)) (option_map (frame_bytes image) (sent s q)) None
+      at q (inl is) =
+          let nothing : sent s q ≡ None = ap (sent s) is ∙ e in
+          let t : ltb q i ≡ false = grind (arith, nat_tests) in
+          let u : ltb q (i + 1) ≡ true = grind (arith, nat_tests) in
+          ap (λ t. cond t (option_map (frame_bytes image) (sent s q)) None) t ∙ ap (option_map (frame_bytes image)) (sym nothing) ∙ ap (λ t. cond t (option_map (frame_bytes image) (sent s q)) None) (sym u)
+      at q (inr off) = ap (λ t. cond t (option_map (frame_bytes image) (sent s q)) None) (let t : ltb q i ≡ ltb q (i + 1) = grind (arith, nat_tests) in t)
+
+  -- one at rest does, and is not refused
+  module _ (i : ℕ) (b : Held K) (here : slice_get s.row i ≡ Some (at_rest b)) where
+    pub posts_one : posting b.number.0 (frame_bytes image (frame_of b)) (posted_below i) ≡ Ok (posted_below (i + 1))
+    posts_one = accepted ∙ ap Ok (λ j. record s.wire { posted = λ q. at q (cases_eq q i) j })
+      where
+        own : (b.number.0 ≡ i) × (b.n ≡ s.wire.n) × (member s.wire.up i ≡ true)
+        own = goes.own i b here
+
+        accepted : posting b.number.0 (frame_bytes image (frame_of b)) (posted_below i) ≡ Ok (carrying b.number.0 (frame_bytes image (frame_of b)) (posted_below i))
+        accepted = posts_ok b.number.0 (frame_bytes image (frame_of b)) (posted_below i)
+            (let l = slice_get_within s.row i (at_rest b) here in let n = goes.places in let o = own.0 in omega arith)
+            (ap (member s.wire.up) own.0 ∙ own.2)
+            (ap (λ t. is_some (cond t (option_map (frame_bytes image) (sent s b.number.0)) None)) (let o = own.0 in let t : ltb b.number.0 i ≡ false = grind (arith, nat_tests) in t))
+            (goes.posts i b here)
+
+        at : (q : ℕ) → (q ≡ i) ⊎ (q ≡ i → ⊥) → cond (eqb q b.number.0) (Some (frame_bytes image (frame_of b))) (cond (ltb q i) (option_map (frame_bytes image) (sent s q)) None)
+            ≡ cond (ltb q (i + 1)) (option_map (frame_bytes image) (sent s q)) None
+        at q (inl is) =
+            let something : sent s q ≡ Some (frame_of b) = ap (sent s) is ∙ ap frame_at here in
+            let o = own.0 in
+            let t : eqb q b.number.0 ≡ true = grind (arith, nat_tests) in
+            let u : ltb q (i + 1) ≡ true = grind (arith, nat_tests) in
+            ap (λ t. cond t (Some (frame_bytes image (frame_of b))) (cond (ltb q i) (option_map (frame_bytes image) (sent s q)) None)) t
+            ∙ ap (option_map (frame_bytes image)) (sym something) ∙ ap (λ t. cond t (option_map (frame_bytes image) (sent s q)) None) (sym u)
+        at q (inr off) =
+            let o = own.0 in
+            let t : eqb q b.number.0 ≡ false = grind (arith, nat_tests) in
+            let u : ltb q i ≡ ltb q (i + 1) = grind (arith, nat_tests) in
+            λ j. cond (t j) (Some (frame_bytes image (frame_of b))) (cond (u j) (option_map (frame_bytes image) (sent s q)) None)
+
+  -- then all have posted that are up
+  pub all_posted : (m : ℕ) → length s.row ≡ m → posted_below m ≡ carried image s
+  all_posted m len = λ j. record s.wire { posted = λ q. at q (slice_get s.row q) refl j }
+    where
+      both : (t u : Bool) → cond {A = Option (List ℕ)} t None None ≡ cond u None None
+      both true true = refl
+      both true false = refl
+      both false true = refl
+      both false false = refl
+
+      same : (q : ℕ) (t u : Bool) → sent s q ≡ None → cond t (option_map (frame_bytes image) (sent s q)) None ≡ cond u (option_map (frame_bytes image) (sent s q)) None
+      same q t u e = ap (λ o. cond t (option_map (frame_bytes image) o) None) e ∙ both t u ∙ ap (λ o. cond u (option_map (frame_bytes image) o) None) (sym e)
+
+      at : (q : ℕ) (o : Option (Stand K)) → slice_get s.row q ≡ o → cond (ltb q m) (option_map (frame_bytes image) (sent s q)) None ≡ cond (member s.wire.up q) (option_map (frame_bytes image) (sent s q)) None
+      at q None e = same q (ltb q m) (member s.wire.up q) (ap frame_at e)
+      at q (Some (at_rest b)) e =
+          let l = slice_get_within s.row q (at_rest b) e in
+          let t : ltb q m ≡ true = grind (arith, nat_tests) in
+          let u = (goes.own q b e).2 in
+          λ j. cond ((t ∙ sym u) j) (option_map (frame_bytes image) (sent s q)) None
+      at q (Some (down r)) e = same q (ltb q m) (member s.wire.up q) (ap frame_at e)
+      at q (Some (rung x)) e = same q (ltb q m) (member s.wire.up q) (ap frame_at e)
