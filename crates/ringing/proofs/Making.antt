@@ -1,5 +1,5 @@
 -- A ringing is made where the checks let it be: then each new box is one that there is. Assumes nothing.
-use Rattle.std.proofs.Common.{◌≡◌, ℕ, zero, suc, cond, ◌+◌, ◌<◌, Bool, true, false, not, ◌||◌, eqb, leb, ltb, List, [], ◌∷◌, length, map, set, Some, None, IfOk, Ok, Err, Option, Result, option_map, refl, sym, ap, ◌∙◌, below_more, arith}
+use Rattle.std.proofs.Common.{◌≡◌, ℕ, cond, ◌+◌, ◌<◌, Bool, true, false, not, ◌||◌, eqb, leb, ltb, List, [], ◌∷◌, length, map, set, Some, None, IfOk, Ok, Err, Option, Result, option_map, refl, sym, ap, ◌∙◌, below_more, arith}
 use Rattle.std.specs.Bool.{⊤}
 use Rattle.std.specs.List.{slice_get}
 use Rattle.std.proofs.lemmas.Bool.Decides.{nat_tests}
@@ -14,7 +14,7 @@ use Rattle.rows.specs.declared.place.Place.{Place}
 use Rattle.rows.specs.Places.{Stand, at_rest, shown}
 use Rattle.rows.specs.Numbered.{by_number}
 use Rattle.rows.specs.Calls.{State, making, first_row, answer}
-use Rattle.rows.proofs.Numbered.{list_ext, get-by_number}
+use Rattle.rows.proofs.Numbered.{list_ext, get-by_number, get-set}
 
 -- what was checked
 pub record Makes {K : Type 0} (n t : ℕ) (m : Meaning) (places : ℕ) (proposals : List K) : Type 0 where
@@ -44,15 +44,6 @@ makes_not {K} n t m places proposals e is = by (making n t m places proposals) i
 -- a box of the company is made
 pub box_made : {K : Type 0} (n t p : ℕ) (v : K) → company n t ≡ true → p < n → new_box (record { 0 = p }) n t v ≡ Ok (first_held (record { 0 = p }) n t v)
 box_made n t p v size l = grind (arith, nat_tests)
-
--- a list with one element set
-pub get-set : {X : Type 0} (xs : List X) (p k : ℕ) (x : X) → p < length xs → slice_get (set xs p x) k ≡ cond (eqb k p) (Some x) (slice_get xs k)
-get-set [] p k x l = absurd (omega arith)
-get-set (y ∷ ys) zero zero x l = ap (λ t. cond t (Some x) (Some y)) (let e : true ≡ eqb 0 0 = grind (arith, nat_tests) in e)
-get-set (y ∷ ys) zero (suc k) x l = ap (λ t. cond t (Some x) (slice_get ys k)) (let e : false ≡ eqb (suc k) 0 = grind (arith, nat_tests) in e)
-get-set (y ∷ ys) (suc p) zero x l = ap (λ t. cond t (Some x) (Some y)) (let e : false ≡ eqb 0 (suc p) = grind (arith, nat_tests) in e)
-get-set (y ∷ ys) (suc p) (suc k) x l =
-    get-set ys p k x (omega arith) ∙ ap (λ t. cond t (Some x) (slice_get ys k)) (let e : eqb k p ≡ eqb (suc k) (suc p) = grind (arith, nat_tests) in e)
 
 pub held_made : {K : Type 0} (n t p : ℕ) (v : K) (b : Held K) → company n t ≡ true → p < n → Ok b ≡ new_box (record { 0 = p }) n t v → b ≡ first_held (record { 0 = p }) n t v
 held_made n t p v b size l e = let m = box_made n t p v size l in cc

@@ -11,6 +11,7 @@ ghost use Rattle.boxes.specs.Rule.{ruled_outcome};
 ghost use Rattle.wire.specs.Meaning.{posting, heard, answer, or_kept};
 ghost use Rattle.rows.specs.declared.place.Place.TheVariants as place;
 ghost use Rattle.rows.specs.Places.{at_rest, shown};
+ghost use Rattle.rows.specs.Numbered.{by_number};
 ghost use Rattle.rows.specs.Calls.{State, heard_by, coming, stand_after, carried};
 ghost use Rattle.rows.specs.Theorems.{Goes};
 ghost use Rattle.ringing.specs.States.{InRound, told_notes};
@@ -98,8 +99,23 @@ fn place_after<W: Wire, K: Kind>(wire: &W, round: RoundNumber, place: Place<K>, 
     ensures { (s : State K) (p : ℕ) → InRound K.leads K.SIZE K.named K.image (W.meaning wire.now) s → round ≡ coming s → slice_get s.row p ≡ Some (shown place) → result_map_both shown (λ e. e) result ≡ Ok (stand_after K.leads s p (shown place)) }
 {
     match place {
-        Place::Resting(b) if wire.falling().contains(b.number()) => Ok(Place::Down(round)),
-        Place::Resting(b) => Ok(close_box(wire, b, line)?.into()),
+        Place::Resting(b) => {
+            if wire.falling().contains(b.number()) {
+                return Ok(Place::Down(round));
+            }
+            Ok(close_box(wire, b, line)?.into())
+        }
         Place::Down(_) | Place::Rung(_) => Ok(place),
     }
+}
+
+// Every box at rest closes the round, one after another in its place, or is down if it falls.
+pub(crate) fn close_boxes<W: Wire, K: Kind>(wire: &W, round: RoundNumber, row: &mut [Place<K>], line: &mut [u8]) -> Result<(), Refusal>
+    requires room { LONGEST_FRAME ≤ length line.old }
+    ensures { (s : State K) → InRound K.leads K.SIZE K.named K.image (W.meaning wire.now) s → round ≡ coming s → s.row ≡ map shown row.old → (result ≡ Ok tt) × (map shown row.new ≡ by_number (stand_after K.leads s) s.row) }
+{
+    for place in row.iter_mut() {
+        *place = place_after(wire, round, *place, line)?;
+    }
+    Ok(())
 }

@@ -1,5 +1,5 @@
 -- Lists whose elements are taken with their numbers. Assumes nothing.
-use Rattle.std.proofs.Common.{◌≡◌, ℕ, zero, suc, ◌+◌, ◌<◌, Bool, true, false, cond, ltb, ◌||◌, ◌⊎◌, List, [], ◌∷◌, length, map, Some, None, Option, option_map, sym, refl, ap, ◌∙◌, arith}
+use Rattle.std.proofs.Common.{◌≡◌, ℕ, zero, suc, ◌+◌, ◌<◌, Bool, true, false, cond, eqb, ltb, ◌||◌, ◌⊎◌, List, [], ◌∷◌, length, map, set, Some, None, Option, option_map, sym, refl, ap, ◌∙◌, arith}
 use Rattle.std.specs.List.{list_any, enumerate_from, slice_get, range_with_len}
 use Rattle.std.proofs.lemmas.Bool.{both_ways}
 use Rattle.std.proofs.lemmas.Bool.Decides.{nat_tests}
@@ -19,6 +19,15 @@ pub get_some : {X : Type 0} (xs : List X) (p : ℕ) → p < length xs → (x : X
 get_some [] p l = absurd (omega arith)
 get_some (x ∷ xs) zero l = (x, refl)
 get_some (x ∷ xs) (suc p) l = get_some xs p (omega arith)
+
+-- a list with one element set
+pub get-set : {X : Type 0} (xs : List X) (p k : ℕ) (x : X) → p < length xs → slice_get (set xs p x) k ≡ cond (eqb k p) (Some x) (slice_get xs k)
+get-set [] p k x l = absurd (omega arith)
+get-set (y ∷ ys) zero zero x l = ap (λ t. cond t (Some x) (Some y)) (let e : true ≡ eqb 0 0 = grind (arith, nat_tests) in e)
+get-set (y ∷ ys) zero (suc k) x l = ap (λ t. cond t (Some x) (slice_get ys k)) (let e : false ≡ eqb (suc k) 0 = grind (arith, nat_tests) in e)
+get-set (y ∷ ys) (suc p) zero x l = ap (λ t. cond t (Some x) (Some y)) (let e : false ≡ eqb 0 (suc p) = grind (arith, nat_tests) in e)
+get-set (y ∷ ys) (suc p) (suc k) x l =
+    get-set ys p k x (omega arith) ∙ ap (λ t. cond t (Some x) (slice_get ys k)) (let e : eqb k p ≡ eqb (suc k) (suc p) = grind (arith, nat_tests) in e)
 
 module _ {X : Type 0} (f : ℕ → X) where
   ranged : (a n p : ℕ) → slice_get (map f (range_with_len a n)) p ≡ cond (ltb p n) (Some (f (a + p))) None

@@ -127,16 +127,16 @@ module _ {K : Type 0} where
   abbrev pub coming : State K → RoundNumber
   coming s = record { 0 = s.closed + 1 }
 
+  -- the wire in the round: each box that is up has posted its frame
+  abbrev pub carried : (K → List ℕ) → State K → Meaning
+  carried image s = record s.wire { posted = λ q. cond (member s.wire.up q) (option_map (frame_bytes image) (sent s q)) None }
+
   module _ (leads : K → K → Bool) where
     -- what the round makes of what stands at place p: a box that falls in it is then down; any other closes it by the frames that it hears
     abbrev pub stand_after : State K → ℕ → Stand K → Stand K
     stand_after s p (at_rest b) = cond (is_some (s.wire.lost p)) (down (coming s)) (stand_of (ruled_outcome leads b (heard_by s p)))
     stand_after s p (down r) = down r
     stand_after s p (rung x) = rung x
-
-    -- the wire in the round: each box that is up has posted its frame
-    abbrev pub carried : (K → List ℕ) → State K → Meaning
-    carried image s = record s.wire { posted = λ q. cond (member s.wire.up q) (option_map (frame_bytes image) (sent s q)) None }
 
     -- what a round makes of all
     abbrev pub played : (K → List ℕ) → State K → State K
