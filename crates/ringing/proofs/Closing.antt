@@ -48,8 +48,8 @@ module _ {K : Type 0} (f : ℕ → Stand K → Stand K) (old : List (Stand K)) w
   pub done_more : (row : List (Place K)) (i : ℕ) (x : Place K) (y : Stand K) → i < length row → slice_get old i ≡ Some y → shown x ≡ f i y → Done i row → Done (i + 1) (set row i x)
   done_more row i x y l at is (below, above) = (
     below_more (λ j. slice_get (map shown (set row i x)) j ≡ option_map (f j) (slice_get old j)) i
-    (λ j m. changed j ∙ ap (λ t. option_map shown (cond t (Some x) (slice_get row j))) (let e : eqb j i ≡ false = grind (arith, nat_tests) in e) ∙ sym (slice_get-map shown row j) ∙ below j m)
-    (changed i ∙ ap (λ t. option_map shown (cond t (Some x) (slice_get row i))) (let e : eqb i i ≡ true = grind (arith, nat_tests) in e) ∙ ap Some is ∙ ap (option_map (f i)) (sym at)),
+        (λ j m. changed j ∙ ap (λ t. option_map shown (cond t (Some x) (slice_get row j))) (let e : eqb j i ≡ false = grind (arith, nat_tests) in e) ∙ sym (slice_get-map shown row j) ∙ below j m)
+        (changed i ∙ ap (λ t. option_map shown (cond t (Some x) (slice_get row i))) (let e : eqb i i ≡ true = grind (arith, nat_tests) in e) ∙ ap Some is ∙ ap (option_map (f i)) (sym at)),
     λ j m. changed j ∙ ap (λ t. option_map shown (cond t (Some x) (slice_get row j))) (let e : eqb j i ≡ false = grind (arith, nat_tests) in e) ∙ sym (slice_get-map shown row j) ∙ above j (omega arith),
   )
     where

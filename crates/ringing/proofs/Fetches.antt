@@ -8,11 +8,8 @@ use Rattle.std.proofs.lemmas.List.{length-append, length-take-le}
 use Rattle.numbers.specs.declared.refusal.Refusal.{Refusal}
 use Rattle.numbers.specs.declared.refusal.Refusal.TheVariants as refusal
 use Rattle.numbers.specs.Refusals.{unless}
-use Rattle.numbers.specs.Numbers.{fronted}
 use Rattle.frames.specs.Frames.{longest_frame}
-use Rattle.wire.specs.Kept.{is_postable}
 use Rattle.wire.specs.Meaning.{Meaning, WellFormed, is_lost, heard, fetching, told, laid}
-use Rattle.sets.specs.declared.set.BoxSet.{BoxSet}
 
 module _ (m : Meaning) (w : WellFormed m) (p q : ℕ) where
   -- what it hears is a frame that a wire takes

@@ -1,14 +1,13 @@
 -- A box hears the others one after another and closes as the rule says. Assumes nothing.
-use Rattle.std.proofs.Common.{◌≡◌, ℕ, suc, ◌+◌, ◌<◌, ◌≤◌, Bool, true, false, cond, not, ◌&&◌, ◌||◌, eqb, ltb, ◌⊎◌, List, is_some, Some, None, Ok, Option, option_map, Result, refl, sym, ap, ◌∙◌, subst, inl, inr, arith}
+use Rattle.std.proofs.Common.{◌≡◌, ℕ, ◌+◌, ◌<◌, Bool, true, false, cond, not, ◌&&◌, ◌||◌, eqb, ltb, ◌⊎◌, List, is_some, Some, None, Ok, Option, option_map, Result, refl, sym, ap, ◌∙◌, subst, inl, inr, arith}
 use Rattle.std.specs.List.{slice_get}
 use Rattle.std.specs.Option.{option_or}
 use Rattle.std.specs.Result.{result_map_both}
 use Rattle.std.proofs.lemmas.Bool.{cases_Bool, cases_eq, eqb-true}
 use Rattle.std.proofs.lemmas.Bool.Decides.{nat_tests}
 use Rattle.std.proofs.lemmas.Option.{slice_get_within}
-use Rattle.numbers.specs.declared.refusal.Refusal.{Refusal}
 use Rattle.sets.specs.declared.set.BoxSet.{BoxSet}
-use Rattle.sets.specs.Masks.{member, set_of}
+use Rattle.sets.specs.Masks.{member}
 use Rattle.sets.proofs.Members.{member_is, member_below}
 use Rattle.frames.specs.declared.frame.Frame.{Frame}
 use Rattle.frames.specs.Faults.{map_fault}
@@ -18,14 +17,14 @@ use Rattle.boxes.specs.declared.states.Notes.{Notes}
 use Rattle.boxes.specs.declared.states.Resting.{Resting}
 use Rattle.boxes.specs.Boxes.{frame_of}
 use Rattle.boxes.specs.Faults.{refusal_of}
-use Rattle.boxes.specs.Rounds.{refused, open_notes, noted, hearing, closing}
-use Rattle.boxes.specs.Rule.{Heard, ruled, ruled_outcome}
+use Rattle.boxes.specs.Rounds.{refused, open_notes, noted, closing}
+use Rattle.boxes.specs.Rule.{Heard, ruled_outcome}
 use Rattle.boxes.proofs.Shown.{Shows, alone, plus, opens, goes_on, shown_closes}
 use Rattle.wire.specs.Meaning.{Meaning, WellFormed, is_in, is_lost, heard}
 use Rattle.rows.specs.Places.{Stand, at_rest, down, rung}
 use Rattle.rows.specs.Calls.{State, frame_at, sent, hears_on, heard_by}
 use Rattle.rows.specs.Theorems.{Goes}
-use Rattle.ringing.specs.States.{Carries, InRound, told_notes}
+use Rattle.ringing.specs.States.{InRound, told_notes}
 
 -- the frames that box p hears of the boxes below m, and its own
 abbrev pub heard_below : {K : Type 0} → State K → ℕ → ℕ → Heard K
@@ -147,11 +146,12 @@ module _ {K : Type 0} (leads : K → K → Bool) (total : (x y : K) → (leads x
             let sender = sender_of (slice_get s.row q) f q (λ c here. (goes.own q c here).0) (when_some (hears_on s.wire p q) (sent s q) f e).1 in
             let few : q < 32 = (let n = itself_up.0 in let e = ap (λ x. x.n) r.wire in omega (arith, b.few, e)) in
             let unheard : member m.heard q ≡ false = member_is (λ i. is_some (below q i)) m.heard shows.heard q few ∙ new in
-            let hears = goes.hears p q b.held f at e m unheard in
-            (noted leads m f,
-            ap (told_notes leads size named b.held m) (heard_bytes q ∙ ap (option_map (frame_bytes image)) e) ∙ ap (result_map_both (λ n. n) refusal_of) hears,
-            subst (Shows leads b (noted leads m f)) (λ j i. more f e sender i j)
-            (goes_on leads total transitive antisymmetric b m (below q) shows f (let n = itself_up.0 in let e = ap (λ x. x.n) r.wire in omega arith) (ap (λ i. is_some (below q i)) sender ∙ new)))
+            let hears = goes.hears p q b.held f at e m unheard in (
+              noted leads m f,
+              ap (told_notes leads size named b.held m) (heard_bytes q ∙ ap (option_map (frame_bytes image)) e) ∙ ap (result_map_both (λ n. n) refusal_of) hears,
+              subst (Shows leads b (noted leads m f)) (λ j i. more f e sender i j)
+                  (goes_on leads total transitive antisymmetric b m (below q) shows f (let n = itself_up.0 in let e = ap (λ x. x.n) r.wire in omega arith) (ap (λ i. is_some (below q i)) sender ∙ new)),
+            )
 
     own_placed : (x : Resting K) → x ≡ b → x.held.number.0 < w.n
     own_placed x e =

@@ -1,6 +1,5 @@
 -- A ringing is made where the checks let it be: then each new box is one that there is. Assumes nothing.
-use Rattle.std.proofs.Common.{◌≡◌, ℕ, cond, ◌+◌, ◌<◌, Bool, true, false, not, ◌||◌, eqb, leb, ltb, List, [], ◌∷◌, length, map, set, Some, None, IfOk, Ok, Err, Option, Result, option_map, refl, sym, ap, ◌∙◌, below_more, arith}
-use Rattle.std.specs.Bool.{⊤}
+use Rattle.std.proofs.Common.{◌≡◌, ℕ, cond, ◌+◌, ◌<◌, Bool, true, false, eqb, ltb, List, length, map, set, Some, IfOk, Ok, Err, Option, Result, option_map, refl, sym, ap, ◌∙◌, below_more, arith}
 use Rattle.std.specs.List.{slice_get}
 use Rattle.std.proofs.lemmas.Bool.Decides.{nat_tests}
 use Rattle.std.proofs.lemmas.List.{length-map}
@@ -12,7 +11,6 @@ use Rattle.boxes.specs.Boxes.{first_held, new_box}
 use Rattle.wire.specs.Meaning.{Meaning}
 use Rattle.rows.specs.declared.place.Place.{Place}
 use Rattle.rows.specs.Places.{Stand, at_rest, shown}
-use Rattle.rows.specs.Numbered.{by_number}
 use Rattle.rows.specs.Calls.{State, making, first_row, answer}
 use Rattle.rows.proofs.Numbered.{list_ext, get-by_number, get-set}
 

@@ -1,5 +1,5 @@
 -- When a row is refused. Assumes nothing.
-use Rattle.std.proofs.Common.{◌≡◌, ℕ, ◌<◌, ◌≤◌, Bool, true, false, not, ◌&&◌, ◌||◌, eqb, ltb, List, [], ◌∷◌, length, map, Some, None, Option, option_map, refl, sym, ap, ◌∙◌, arith}
+use Rattle.std.proofs.Common.{◌≡◌, ℕ, ◌<◌, ◌≤◌, Bool, true, false, not, ◌&&◌, eqb, ltb, List, [], ◌∷◌, length, map, Some, None, Option, option_map, refl, sym, ap, ◌∙◌, arith}
 use Rattle.std.specs.List.{list_any, slice_get}
 use Rattle.std.proofs.lemmas.Bool.Decides.{nat_tests}
 use Rattle.std.proofs.lemmas.List.{length-map}
@@ -12,7 +12,6 @@ use Rattle.wire.specs.Meaning.{Meaning, WellFormed}
 use Rattle.rows.specs.declared.place.Place.{Place}
 use Rattle.rows.specs.Places.{Stand, shown}
 use Rattle.rows.specs.Calls.{State, is_gone, gone, misplaced, bad_row, has_rung}
-use Rattle.rows.specs.Numbered.{any_numbered}
 use Rattle.rows.proofs.Numbered.{numbered_some, numbered_none}
 use Rattle.ringing.specs.States.{state}
 use Rattle.ringing.proofs.Wires.{few}

@@ -9,6 +9,7 @@ ghost use Rattle.rows.specs.Calls.{has_rung, is_gone};
 
 use super::ringing::Ringing;
 use boxes::Resting;
+use frames::LONGEST_FRAME;
 use kinds::Kind;
 use numbers::Refusal;
 use rows::Place;
@@ -62,7 +63,7 @@ pub(crate) fn check_fall<W: Wire>(wire: &W, q: BoxNumber, lost: BoxSet) -> Resul
 
 impl<W: Wire> Ringing<W> {
     ghost use Rattle.rows.specs.Calls as rows;
-    ghost use Rattle.rows.specs.Calls.{is_other, misplaced, row_checked, telling};
+    ghost use Rattle.rows.specs.Calls.{is_other, misplaced, row_checked, telling, playing};
     ghost use Rattle.ringing.specs.States.{state};
 
     // Whether the box at rest is the one that this ringing has at place p.
@@ -119,6 +120,24 @@ impl<W: Wire> Ringing<W> {
         check_fall(&self.wire, q, lost)?;
         if gone(&self.wire).count() >= self.t {
             return Err(Refusal::Spent);
+        }
+        Ok(())
+    }
+
+    // Whether a round may be played with so many line bytes, or why not.
+    pub(crate) fn check_playing<K: Kind>(
+        &self,
+        row: &[Place<K>],
+        room: usize,
+    ) -> Result<(), Refusal>
+        ensures { result ≡ rows.answer (playing K.leads K.image room (state (W.meaning self.now.wire) self.now.t self.now.closed row.now)) }
+    {
+        self.check_row(row)?;
+        if room < LONGEST_FRAME {
+            return Err(Refusal::Narrow);
+        }
+        if is_over(row) {
+            return Err(Refusal::Over);
         }
         Ok(())
     }

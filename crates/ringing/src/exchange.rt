@@ -12,7 +12,7 @@ ghost use Rattle.wire.specs.Meaning.{posting, heard, answer, or_kept};
 ghost use Rattle.rows.specs.declared.place.Place.TheVariants as place;
 ghost use Rattle.rows.specs.Places.{at_rest, shown};
 ghost use Rattle.rows.specs.Numbered.{by_number};
-ghost use Rattle.rows.specs.Calls.{State, heard_by, coming, stand_after, carried};
+ghost use Rattle.rows.specs.Calls.{State, heard_by, coming, stand_after, carried, played};
 ghost use Rattle.rows.specs.Theorems.{Goes};
 ghost use Rattle.ringing.specs.States.{InRound, told_notes};
 
@@ -64,7 +64,11 @@ fn hear_box<W: Wire, K: Kind>(
 }
 
 // A box opens the round, hears every other box and closes.
-fn close_box<W: Wire, K: Kind>(wire: &W, b: Resting<K>, line: &mut [u8]) -> Result<Closed<K>, Refusal>
+fn close_box<W: Wire, K: Kind>(
+    wire: &W,
+    b: Resting<K>,
+    line: &mut [u8],
+) -> Result<Closed<K>, Refusal>
     requires room { LONGEST_FRAME ≤ length line.old }
     ensures { (s : State K) → InRound K.leads K.SIZE K.named K.image (W.meaning wire.now) s → slice_get s.row b.held.number.0 ≡ Some (at_rest b.held) → result_map_both outcome (λ e. e) result ≡ Ok (ruled_outcome K.leads b.held (heard_by s b.held.number.0)) }
 {
@@ -81,7 +85,11 @@ fn close_box<W: Wire, K: Kind>(wire: &W, b: Resting<K>, line: &mut [u8]) -> Resu
 }
 
 // Each box at rest posts its frame.
-pub(crate) fn post_frames<W: Wire, K: Kind>(wire: &mut W, row: &[Place<K>], line: &mut [u8]) -> Result<(), Refusal>
+fn post_frames<W: Wire, K: Kind>(
+    wire: &mut W,
+    row: &[Place<K>],
+    line: &mut [u8],
+) -> Result<(), Refusal>
     requires room { LONGEST_FRAME ≤ length line.old }
     ensures { (s : State K) → s.wire ≡ W.meaning wire.old → s.row ≡ map shown row.now → Goes K.leads K.SIZE K.named K.image s → ((q : ℕ) → s.wire.posted q ≡ None) → (result ≡ Ok tt) × (W.meaning wire.new ≡ carried K.image s) }
 {
@@ -94,7 +102,12 @@ pub(crate) fn post_frames<W: Wire, K: Kind>(wire: &mut W, row: &[Place<K>], line
 }
 
 // What stands at a place after the round: a box that falls is down since it, and another has closed it.
-fn place_after<W: Wire, K: Kind>(wire: &W, round: RoundNumber, place: Place<K>, line: &mut [u8]) -> Result<Place<K>, Refusal>
+fn place_after<W: Wire, K: Kind>(
+    wire: &W,
+    round: RoundNumber,
+    place: Place<K>,
+    line: &mut [u8],
+) -> Result<Place<K>, Refusal>
     requires room { LONGEST_FRAME ≤ length line.old }
     ensures { (s : State K) (p : ℕ) → InRound K.leads K.SIZE K.named K.image (W.meaning wire.now) s → round ≡ coming s → slice_get s.row p ≡ Some (shown place) → result_map_both shown (λ e. e) result ≡ Ok (stand_after K.leads s p (shown place)) }
 {
@@ -110,12 +123,34 @@ fn place_after<W: Wire, K: Kind>(wire: &W, round: RoundNumber, place: Place<K>, 
 }
 
 // Every box at rest closes the round, one after another in its place, or is down if it falls.
-pub(crate) fn close_boxes<W: Wire, K: Kind>(wire: &W, round: RoundNumber, row: &mut [Place<K>], line: &mut [u8]) -> Result<(), Refusal>
+fn close_boxes<W: Wire, K: Kind>(
+    wire: &W,
+    round: RoundNumber,
+    row: &mut [Place<K>],
+    line: &mut [u8],
+) -> Result<(), Refusal>
     requires room { LONGEST_FRAME ≤ length line.old }
     ensures { (s : State K) → InRound K.leads K.SIZE K.named K.image (W.meaning wire.now) s → round ≡ coming s → s.row ≡ map shown row.old → (result ≡ Ok tt) × (map shown row.new ≡ by_number (stand_after K.leads s) s.row) }
 {
     for place in row.iter_mut() {
         *place = place_after(wire, round, *place, line)?;
     }
+    Ok(())
+}
+
+// The whole round on the wire and in the row.
+pub(crate) fn exchange_frames<W: Wire, K: Kind>(
+    wire: &mut W,
+    round: RoundNumber,
+    row: &mut [Place<K>],
+    line: &mut [u8],
+) -> Result<(), Refusal>
+    requires room { LONGEST_FRAME ≤ length line.old }
+    ensures { (s : State K) → s.wire ≡ W.meaning wire.old → s.row ≡ map shown row.old → round ≡ coming s → Goes K.leads K.SIZE K.named K.image s → (result ≡ Ok tt) × (W.meaning wire.new ≡ (played K.leads K.image s).wire) × (map shown row.new ≡ (played K.leads K.image s).row) }
+{
+    wire.open();
+    post_frames(wire, row, line)?;
+    close_boxes(wire, round, row, line)?;
+    wire.close();
     Ok(())
 }

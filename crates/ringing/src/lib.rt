@@ -6,6 +6,6 @@ mod exchange;
 mod guard;
 mod make;
 mod ringing;
-
+mod round;
 
 pub use ringing::Ringing;

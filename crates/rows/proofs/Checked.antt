@@ -1,21 +1,19 @@
 -- A row that is not refused. Assumes nothing.
-use Rattle.std.proofs.Common.{◌≡◌, ℕ, zero, suc, ◌+◌, ◌^◌, ◌<◌, ◌≤◌, Bool, true, false, not, ◌&&◌, ◌||◌, cond, eqb, leb, ltb, ◌⊎◌, List, [], ◌∷◌, length, map, is_some, Some, None, Ok, Option, option_map, sym, refl, ap, ◌∙◌, subst, inl, inr, arith}
+use Rattle.std.proofs.Common.{◌≡◌, ℕ, ◌<◌, ◌≤◌, true, false, ◌&&◌, List, length, map, Some, None, Option, option_map, sym, ap, ◌∙◌, arith}
 use Rattle.std.specs.List.{slice_get}
 use Rattle.std.proofs.lemmas.Bool.Decides.{nat_tests}
-use Rattle.std.proofs.lemmas.Option.{slice_get-map, slice_get_within, slice_get_cases}
-use Rattle.sets.specs.Companies.{company}
-use Rattle.sets.specs.Tests.{any, count}
-use Rattle.sets.specs.Masks.{member, set_of}
-use Rattle.sets.proofs.Counts.{any_none, any_has, none_any}
+use Rattle.std.proofs.lemmas.Option.{slice_get-map, slice_get_within}
+use Rattle.sets.specs.Tests.{any}
+use Rattle.sets.specs.Masks.{member}
+use Rattle.sets.proofs.Counts.{any_none}
 use Rattle.sets.proofs.Members.{member_below}
 use Rattle.boxes.specs.declared.states.Held.{Held}
 use Rattle.boxes.specs.declared.states.Resting.{Resting}
-use Rattle.wire.specs.Meaning.{Meaning, WellFormed, is_lost}
 use Rattle.rows.specs.declared.place.Place.{Place}
 use Rattle.rows.specs.declared.place.Place.TheVariants as place
-use Rattle.rows.specs.Places.{Stand, at_rest, down, rung, shown}
-use Rattle.rows.specs.Calls.{State, is_gone, gone, is_other, misplaced, bad_row, has_rung, over, sent, hears_on, heard_by}
-use Rattle.rows.proofs.Numbered.{none_numbered, list_none}
+use Rattle.rows.specs.Places.{Stand, at_rest, shown}
+use Rattle.rows.specs.Calls.{State, gone, misplaced, bad_row}
+use Rattle.rows.proofs.Numbered.{none_numbered}
 
 -- what is at rest at a place is a box at rest
 pub box_of : {K : Type 0} (x : Place K) (b : Held K) → shown x ≡ at_rest b → (a : Resting K) × (a.held ≡ b)

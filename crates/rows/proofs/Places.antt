@@ -1,9 +1,9 @@
 -- A place is determined by what stands there, and a row by its places. Assumes nothing.
-use Rattle.std.proofs.Common.{◌≡◌, List, [], ◌∷◌, map, refl, ap, arith}
+use Rattle.std.proofs.Common.{◌≡◌, [], ◌∷◌, refl, ap, arith}
 use Rattle.boxes.specs.Theorems.{BoxDetermined}
 use Rattle.rows.specs.declared.place.Place.{Place}
 use Rattle.rows.specs.declared.place.Place.TheVariants as place
-use Rattle.rows.specs.Places.{Stand, at_rest, down, rung, shown}
+use Rattle.rows.specs.Places.{shown}
 use Rattle.rows.specs.Theorems.{RowDetermined}
 
 module _ {K : Type 0} (box : BoxDetermined K) where

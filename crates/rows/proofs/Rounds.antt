@@ -1,17 +1,16 @@
 -- A round of a checked row: nothing is refused in it. Assumes nothing.
-use Rattle.std.proofs.Common.{◌≡◌, ℕ, zero, suc, ◌+◌, ◌^◌, ◌<◌, ◌≤◌, Bool, true, false, not, ◌&&◌, ◌||◌, cond, eqb, leb, ltb, ◌⊎◌, List, [], ◌∷◌, length, map, is_some, Some, None, Ok, Option, option_map, unwrap_or, sym, refl, ap, ◌∙◌, subst, inl, inr, arith}
+use Rattle.std.proofs.Common.{◌≡◌, ℕ, ◌<◌, ◌≤◌, Bool, true, false, not, ◌&&◌, ◌||◌, cond, ltb, List, [], ◌∷◌, map, is_some, Some, None, Ok, Option, sym, refl, ap, ◌∙◌, arith}
 use Rattle.std.specs.List.{slice_get}
 use Rattle.std.specs.Bool.{⊤}
 use Rattle.std.specs.Result.{result_map_both}
 use Rattle.std.proofs.lemmas.Bool.Decides.{nat_tests}
-use Rattle.std.proofs.lemmas.Option.{slice_get-map, slice_get_within, slice_get_cases}
 use Rattle.numbers.specs.declared.refusal.Refusal.TheVariants as refusal
 use Rattle.numbers.specs.Refusals.{unless}
 use Rattle.sets.specs.declared.set.BoxSet.{BoxSet}
 use Rattle.sets.specs.Companies.{company}
 use Rattle.sets.specs.Tests.{any, count}
-use Rattle.sets.specs.Masks.{member, set_of}
-use Rattle.sets.proofs.Counts.{any_none, any_has, none_any, count_le, one_fails}
+use Rattle.sets.specs.Masks.{member}
+use Rattle.sets.proofs.Counts.{any_has, none_any, count_le, one_fails}
 use Rattle.sets.proofs.Members.{member_below, member_is, company_member, company_count}
 use Rattle.frames.specs.declared.frame.Frame.{Frame}
 use Rattle.frames.specs.Frames.{frame_bytes}
@@ -19,16 +18,16 @@ use Rattle.boxes.specs.declared.states.Held.{Held}
 use Rattle.boxes.specs.declared.states.Notes.{Notes}
 use Rattle.boxes.specs.declared.states.Resting.{Resting}
 use Rattle.boxes.specs.Boxes.{frame_of}
-use Rattle.boxes.specs.Rounds.{refused, noted, hearing, outcome_with, closed_with}
-use Rattle.boxes.specs.Rule.{Heard, tells, first_heard, not_heard, told_missing, ruled, ruled_outcome}
+use Rattle.boxes.specs.Rounds.{refused, noted, hearing, closed_with}
+use Rattle.boxes.specs.Rule.{tells, not_heard, told_missing, ruled, ruled_outcome}
 use Rattle.boxes.specs.Theorems.{FrameShort, ComposedHeard}
 use Rattle.wire.specs.Kept.{is_postable}
 use Rattle.wire.specs.Meaning.{Meaning, WellFormed, is_lost}
 use Rattle.rows.specs.declared.place.Place.{Place}
 use Rattle.rows.specs.Places.{Stand, at_rest, down, rung, shown}
-use Rattle.rows.specs.Calls.{State, is_gone, gone, is_other, misplaced, bad_row, has_rung, over, frame_at, sent, hears_on, heard_by}
-use Rattle.rows.specs.Theorems.{Goes, RoundGoes}
-use Rattle.rows.proofs.Numbered.{none_numbered, list_none, get_some}
+use Rattle.rows.specs.Calls.{State, is_gone, bad_row, has_rung, over, frame_at, sent, hears_on, heard_by}
+use Rattle.rows.specs.Theorems.{RoundGoes}
+use Rattle.rows.proofs.Numbered.{list_none, get_some}
 use Rattle.rows.proofs.Checked.{Rests, places, few_gone, fits, rests_at}
 
 -- a frame that is sent is that of a box at rest there

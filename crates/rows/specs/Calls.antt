@@ -1,6 +1,6 @@
 -- A ringing with its row: which row is refused, and what each call makes of both. Assumes nothing.
-use Rattle.std.specs.Prelude.{ℕ, ◌+◌, ⊤, Bool, false, true, cond, not, ◌&&◌, ◌||◌, List, [], ◌∷◌, length, map, is_some, Some, None, Ok, Err, Option, option_map, Result, ◌==◌, nat_le, nat_lt}
-use Rattle.std.specs.List.{list_any, enumerate_from, slice_get}
+use Rattle.std.specs.Prelude.{ℕ, ◌+◌, ⊤, Bool, false, true, cond, not, ◌&&◌, ◌||◌, List, [], ◌∷◌, length, is_some, Some, None, Option, option_map, Result, ◌==◌, nat_le, nat_lt}
+use Rattle.std.specs.List.{list_any, slice_get}
 use Rattle.std.specs.Option.{ok_or}
 use Rattle.std.specs.Result.{result_map_both, result_unwrap_or}
 use Rattle.numbers.specs.declared.refusal.Refusal.{Refusal}
@@ -17,11 +17,9 @@ use Rattle.frames.specs.Faults.{and_then}
 use Rattle.frames.specs.Frames.{frame_bytes, longest_frame}
 use Rattle.boxes.specs.declared.states.Held.{Held}
 use Rattle.boxes.specs.Boxes.{first_held, frame_of}
-use Rattle.boxes.specs.Rounds.{Outcome, rests, rings}
 use Rattle.boxes.specs.Rule.{Heard, ruled_outcome}
 use Rattle.wire.specs.Meaning as wire
 use Rattle.wire.specs.Meaning.{Meaning, is_lost, falling}
-use Rattle.rows.specs.declared.place.Blow.TheVariants as blow
 use Rattle.rows.specs.declared.place.Standing.{Standing}
 use Rattle.rows.specs.Numbered.{by_number, any_numbered}
 use Rattle.rows.specs.Places.{Stand, at_rest, down, rung, stand_of, standing_of}

@@ -1,5 +1,5 @@
 -- What holds of a ringing with its row. Assumes nothing.
-use Rattle.std.specs.Prelude.{◌≡◌, ℕ, ◌≤◌, Bool, true, false, List, length, map, Some, None, Ok, Option}
+use Rattle.std.specs.Prelude.{◌≡◌, ℕ, ◌≤◌, Bool, true, false, List, length, map, Some, Ok, Option}
 use Rattle.std.specs.List.{slice_get}
 use Rattle.sets.specs.Companies.{company}
 use Rattle.sets.specs.Masks.{member}

@@ -1,29 +1,24 @@
 -- A fall that is accepted. Assumes nothing.
-use Rattle.std.proofs.Common.{◌≡◌, ℕ, zero, suc, ◌+◌, ◌<◌, ◌≤◌, Bool, true, false, not, ◌&&◌, ◌||◌, cond, eqb, leb, ltb, ◌⊎◌, List, map, is_some, Some, None, Ok, Option, Result, sym, refl, ap, ◌∙◌, inl, inr, arith}
+use Rattle.std.proofs.Common.{◌≡◌, ℕ, zero, suc, ◌<◌, ◌≤◌, Bool, true, false, not, ◌&&◌, ◌||◌, cond, eqb, leb, ltb, ◌⊎◌, List, map, is_some, Some, None, Option, sym, refl, ap, ◌∙◌, inl, inr, arith}
 use Rattle.std.specs.List.{range_with_len}
 use Rattle.std.proofs.lemmas.Bool.{cases_Bool, eqb-true}
 use Rattle.std.proofs.lemmas.Bool.Decides.{nat_tests}
-use Rattle.sets.specs.declared.labels.BoxNumber.{BoxNumber}
 use Rattle.sets.specs.declared.set.BoxSet.{BoxSet}
-use Rattle.sets.specs.Tests.{any, count}
+use Rattle.sets.specs.Tests.{count}
 use Rattle.sets.specs.Masks.{member, set_of}
-use Rattle.sets.proofs.Bits.{set_ext}
 use Rattle.sets.proofs.Counts.{any_none, none_any, count_ext, count_more}
 use Rattle.frames.specs.Frames.{frame_bytes}
-use Rattle.boxes.specs.declared.states.Held.{Held}
 use Rattle.boxes.specs.Boxes.{frame_of}
-use Rattle.boxes.specs.Rounds.{Outcome, rests, rings}
 use Rattle.wire.specs.Meaning.{fallen}
 use Rattle.rule.specs.declared.falls.Fall.{Fall}
-use Rattle.rule.specs.Falls.{Falls, with_fall, fell_before, past, closes}
+use Rattle.rule.specs.Falls.{Falls, with_fall, fell_before}
 use Rattle.rule.specs.Histories.{History, Allowed, as_of}
-use Rattle.rule.specs.Values as rule
-use Rattle.rule.specs.Boxes.{held_after, sends_after, outcome_of}
+use Rattle.rule.specs.Boxes.{outcome_of}
 use Rattle.rule.specs.Theorems.{QuietBefore, OnlyPast, FallToCome}
 use Rattle.rule.proofs.Rounds.{fell_closes, fell_next}
 use Rattle.rows.specs.Places.{down, stand_of}
 use Rattle.rows.specs.Calls.{State, gone}
-use Rattle.runs.specs.Runs.{Call, noted, lost_in, stood, stand_by, row_by, posted_by, wire_by, state_by}
+use Rattle.runs.specs.Runs.{lost_in, stood, stand_by, row_by, posted_by, wire_by, state_by}
 use Rattle.runs.proofs.Pictured.{lost_some, up_is, lost_is, gone_count}
 use Rattle.runs.proofs.Going.{Going}
 use Rattle.runs.proofs.Same.{closes_same, held_same, rings_same, outcome_same}

@@ -1,15 +1,15 @@
 -- Each call, accepted or refused, keeps a ringing with its row to the history. Assumes nothing.
-use Rattle.std.proofs.Common.{◌≡◌, ℕ, suc, ◌+◌, ◌<◌, ◌≤◌, Bool, true, false, cond, not, ◌&&◌, ◌||◌, leb, ltb, ◌⊎◌, List, [], ◌∷◌, is_some, Some, None, Ok, Err, Option, Result, is_ok, sym, refl, ap, ◌∙◌, subst, inl, inr, arith}
+use Rattle.std.proofs.Common.{◌≡◌, ℕ, ◌<◌, Bool, true, false, cond, List, [], ◌∷◌, is_some, Ok, Err, Option, Result, is_ok, sym, refl, ap, ◌∙◌, subst, arith}
 use Rattle.std.proofs.lemmas.Bool.Decides.{nat_tests}
 use Rattle.sets.specs.declared.labels.BoxNumber.{BoxNumber}
 use Rattle.sets.specs.declared.set.BoxSet.{BoxSet}
 use Rattle.sets.specs.Masks.{member}
 use Rattle.numbers.specs.declared.refusal.Refusal.{Refusal}
-use Rattle.wire.specs.Meaning.{Meaning, WellFormed, fallen, falling}
+use Rattle.wire.specs.Meaning.{fallen, falling}
 use Rattle.rule.specs.Histories.{History}
 use Rattle.rule.specs.Theorems.{BoxBegins, BoxFollows, OnlyPast, FallToCome}
-use Rattle.rows.specs.Calls.{State, gone, bad_row, over, making, telling, playing, played, or_kept}
-use Rattle.runs.specs.Runs.{Call, fall, round, ask, first_history, noted, is_accepted, after, state_after, history_after, wire_by, state_by}
+use Rattle.rows.specs.Calls.{State, gone, bad_row, over, telling, playing, played, or_kept}
+use Rattle.runs.specs.Runs.{Call, fall, round, ask, first_history, noted, is_accepted, after, state_after, history_after, state_by}
 use Rattle.runs.specs.Theorems.{Follows, CallsFollow}
 use Rattle.runs.proofs.Pictured.{row_good, n_is}
 use Rattle.runs.proofs.Going.{Going}

@@ -1,12 +1,10 @@
 -- What is kept from call to call: a ringing with its row is that of its history. Assumes nothing.
-use Rattle.std.proofs.Common.{◌≡◌, ℕ, suc, false, Bool, List, is_some, Option}
+use Rattle.std.proofs.Common.{◌≡◌, ℕ, suc, Bool, List, is_some, Option}
 use Rattle.rule.specs.Falls.{fell_before}
 use Rattle.rule.specs.Histories.{History, Allowed}
 use Rattle.rule.specs.Theorems.{QuietBefore}
-use Rattle.rows.specs.Calls.{State, bad_row}
+use Rattle.rows.specs.Calls.{State}
 use Rattle.runs.specs.Runs.{state_by}
-use Rattle.runs.specs.Theorems.{Follows}
-use Rattle.runs.proofs.Pictured.{row_good}
 
 -- besides, no box falls later than in the round to come
 pub record Going {K : Type 0} (leads : K → K → Bool) (image : K → List ℕ) (unopened : ℕ → Option (List ℕ)) (s : State K) (h : History K) : Type 0 where

@@ -1,5 +1,5 @@
 -- A ringing that was made: it is that of the history in which nothing has happened. Assumes nothing.
-use Rattle.std.proofs.Common.{◌≡◌, ℕ, zero, suc, ◌+◌, ◌^◌, ◌<◌, ◌≤◌, Bool, true, false, not, ◌&&◌, ◌||◌, cond, eqb, leb, ltb, ◌⊎◌, List, [], ◌∷◌, length, subst, get_or, is_some, Some, None, Ok, Option, option_map, sym, refl, ap, ◌∙◌, inl, inr, not-suc-le-zero, arith}
+use Rattle.std.proofs.Common.{◌≡◌, ℕ, ◌^◌, ◌<◌, ◌≤◌, Bool, true, false, ◌&&◌, cond, ltb, ◌⊎◌, List, [], ◌∷◌, length, subst, get_or, is_some, Some, None, Ok, Option, option_map, sym, refl, ap, ◌∙◌, inl, inr, not-suc-le-zero, arith}
 use Rattle.std.specs.List.{slice_get}
 use Rattle.std.proofs.lemmas.Bool.{cases_Bool}
 use Rattle.std.proofs.lemmas.Bool.Decides.{nat_tests}
@@ -8,25 +8,22 @@ use Rattle.numbers.specs.declared.refusal.Refusal.TheVariants as refusal
 use Rattle.numbers.specs.Refusals.{unless}
 use Rattle.sets.specs.declared.set.BoxSet.{BoxSet}
 use Rattle.sets.specs.Companies.{company}
-use Rattle.sets.specs.Tests.{any, count}
+use Rattle.sets.specs.Tests.{any}
 use Rattle.sets.specs.Masks.{member, set_of}
 use Rattle.sets.proofs.Bits.{bit_high}
 use Rattle.sets.proofs.Counts.{any_none, none_any, count_none}
 use Rattle.sets.proofs.Members.{set_kept, member_below}
-use Rattle.boxes.specs.declared.states.Held.{Held}
-use Rattle.boxes.specs.Boxes.{first_held, new_box}
-use Rattle.wire.specs.Kept.{Falls}
+use Rattle.boxes.specs.Boxes.{first_held}
 use Rattle.wire.specs.Meaning.{Meaning, WellFormed}
-use Rattle.rule.specs.Falls.{no_falls, fell_before, closes}
+use Rattle.rule.specs.Falls.{no_falls, closes}
 use Rattle.rule.specs.Histories.{History, Allowed}
 use Rattle.rule.specs.Values as rule
 use Rattle.rule.specs.Boxes.{held_after}
 use Rattle.rule.specs.Theorems.{BoxBegins}
-use Rattle.rows.specs.Places.{Stand, at_rest}
-use Rattle.rows.specs.Numbered.{by_number}
-use Rattle.rows.specs.Calls.{State, is_gone, bad_wire, first_row, making}
+use Rattle.rows.specs.Places.{at_rest}
+use Rattle.rows.specs.Calls.{State, is_gone, first_row, making}
 use Rattle.rows.proofs.Numbered.{list_ext, get-by_number}
-use Rattle.runs.specs.Runs.{first_history, stand_by, row_by, posted_by, wire_by, state_by}
+use Rattle.runs.specs.Runs.{first_history, stand_by, row_by, posted_by, wire_by}
 use Rattle.runs.proofs.Pictured.{at_place, resting_stands}
 use Rattle.runs.proofs.Fallen.{none_of}
 use Rattle.runs.proofs.Going.{Going}

@@ -1,29 +1,26 @@
 -- The ringing and its row by a history, place by place. Assumes nothing.
-use Rattle.std.proofs.Common.{◌≡◌, ℕ, zero, suc, ◌+◌, ◌<◌, ◌≤◌, Bool, true, false, not, ◌&&◌, ◌||◌, cond, eqb, leb, ltb, ◌⊎◌, List, map, length, is_some, Some, None, Ok, Option, option_map, sym, refl, ap, ◌∙◌, subst, inl, inr, arith}
-use Rattle.std.specs.List.{slice_get, range_with_len}
-use Rattle.std.proofs.lemmas.Bool.{cases_Bool, both_ways}
+use Rattle.std.proofs.Common.{◌≡◌, ℕ, zero, suc, ◌<◌, ◌≤◌, Bool, true, false, not, ◌&&◌, cond, eqb, leb, ltb, ◌⊎◌, List, length, is_some, Some, None, Option, sym, refl, ap, ◌∙◌, inl, inr, arith}
+use Rattle.std.specs.List.{slice_get}
+use Rattle.std.proofs.lemmas.Bool.{cases_Bool}
 use Rattle.std.proofs.lemmas.Bool.Decides.{nat_tests}
 use Rattle.std.proofs.lemmas.List.FromFn.{length-map-range_with_len}
-use Rattle.sets.specs.declared.set.BoxSet.{BoxSet}
 use Rattle.sets.specs.Companies.{company}
-use Rattle.sets.specs.Tests.{any, count}
-use Rattle.sets.specs.Masks.{member, set_of}
+use Rattle.sets.specs.Tests.{count}
+use Rattle.sets.specs.Masks.{member}
 use Rattle.sets.proofs.Counts.{none_any, count_ext}
 use Rattle.sets.proofs.Members.{company_member}
-use Rattle.boxes.specs.declared.states.Held.{Held}
 use Rattle.boxes.specs.Rounds.{Outcome, rests, rings}
-use Rattle.wire.specs.Meaning.{Meaning, is_in, is_lost}
+use Rattle.wire.specs.Meaning.{is_in}
 use Rattle.rule.specs.declared.falls.Fall.{Fall}
-use Rattle.rule.specs.Falls.{Falls, fell_before, fell_in, fell_unheard, lasts, closes, hears}
-use Rattle.rule.specs.Histories.{History, Allowed}
+use Rattle.rule.specs.Falls.{fell_before, fell_in, fell_unheard, lasts, closes}
+use Rattle.rule.specs.Histories.{History}
 use Rattle.rule.specs.Values as rule
 use Rattle.rule.specs.Values.{missed}
 use Rattle.rule.specs.Boxes.{held_after, outcome_of}
-use Rattle.rule.specs.Theorems.{QuietBefore}
 use Rattle.rule.proofs.Rounds.{closing_heard, fell_closes, fell_next}
-use Rattle.rows.specs.Places.{Stand, at_rest, down, rung, stand_of}
-use Rattle.rows.specs.Calls.{State, is_gone, gone, is_other, misplaced, bad_row, has_rung, over}
-use Rattle.rows.proofs.Numbered.{get-range, get_some, numbered_none}
+use Rattle.rows.specs.Places.{Stand, at_rest, down, stand_of}
+use Rattle.rows.specs.Calls.{State, is_gone, gone, is_other, misplaced, bad_row}
+use Rattle.rows.proofs.Numbered.{get-range, numbered_none}
 use Rattle.runs.specs.Runs.{lost_in, stood, stand_by, row_by, wire_by, state_by}
 
 -- ---- one box that falls

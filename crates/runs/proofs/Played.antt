@@ -1,39 +1,34 @@
 -- A round that is accepted. Assumes nothing.
-use Rattle.std.proofs.Common.{◌≡◌, ℕ, zero, suc, ◌+◌, ◌<◌, ◌≤◌, Bool, true, false, not, ◌&&◌, ◌||◌, cond, eqb, leb, ltb, ◌⊎◌, List, [], ◌∷◌, map, is_some, Some, None, Ok, Option, option_map, Result, sym, refl, ap, ◌∙◌, inl, inr, add-one, arith}
-use Rattle.std.specs.List.{slice_get, range_with_len}
+use Rattle.std.proofs.Common.{◌≡◌, ℕ, suc, ◌+◌, ◌<◌, ◌≤◌, Bool, true, false, not, ◌&&◌, cond, eqb, leb, ltb, ◌⊎◌, List, [], ◌∷◌, is_some, Some, None, Ok, Option, option_map, sym, refl, ap, ◌∙◌, inl, inr, add-one, arith}
+use Rattle.std.specs.List.{slice_get}
 use Rattle.std.proofs.lemmas.Bool.{cases_Bool, cases_eq, both_ways, eqb-true}
 use Rattle.std.proofs.lemmas.Bool.Decides.{nat_tests}
-use Rattle.numbers.specs.declared.refusal.Refusal.{Refusal}
 use Rattle.numbers.specs.declared.refusal.Refusal.TheVariants as refusal
 use Rattle.numbers.specs.Refusals.{unless}
-use Rattle.sets.specs.declared.set.BoxSet.{BoxSet}
-use Rattle.sets.specs.Tests.{any, count}
-use Rattle.sets.specs.Masks.{member, set_of}
+use Rattle.sets.specs.Masks.{member}
 use Rattle.sets.proofs.Bits.{set_ext}
-use Rattle.frames.specs.declared.frame.Frame.{Frame}
 use Rattle.frames.specs.Frames.{frame_bytes}
 use Rattle.boxes.specs.declared.states.Held.{Held}
 use Rattle.boxes.specs.Boxes.{frame_of}
-use Rattle.boxes.specs.Rounds.{Outcome, rests, rings, outcome_with, closed_with}
+use Rattle.boxes.specs.Rounds.{Outcome, rings, closed_with}
 use Rattle.boxes.specs.Rule.{Heard, ruled, ruled_outcome}
-use Rattle.wire.specs.Meaning.{is_in, is_lost}
-use Rattle.wire.specs.Meaning as wire
+use Rattle.wire.specs.Meaning.{is_in}
 use Rattle.rule.specs.declared.falls.Fall.{Fall}
-use Rattle.rule.specs.Falls.{fell_before, fell_in, fell_unheard, lasts, closes, hears}
+use Rattle.rule.specs.Falls.{fell_before, fell_in, lasts, closes, hears}
 use Rattle.rule.specs.Histories.{History, Allowed}
 use Rattle.rule.specs.Values as rule
 use Rattle.rule.specs.Boxes.{held_after, sends_after, outcome_of, hears_of_company, hears_after}
 use Rattle.rule.specs.Theorems.{QuietBefore, BoxFollows, OnlyPast}
 use Rattle.rule.proofs.Rounds.{closed_before, fell_closes, fell_next, fell_once, unheard_open}
-use Rattle.rows.specs.Places.{Stand, at_rest, down, rung, stand_of}
+use Rattle.rows.specs.Places.{Stand, at_rest, down, stand_of}
 use Rattle.rows.specs.Numbered.{by_number}
 use Rattle.rows.specs.Calls.{State, frame_at, sent, hears_on, heard_by, coming, has_rung, over, stand_after, played}
 use Rattle.rows.proofs.Numbered.{list_ext, get-by_number, list_none}
 use Rattle.runs.specs.Runs.{lost_in, stood, stand_by, row_by, posted_by, wire_by, state_by}
-use Rattle.runs.proofs.Pictured.{lost_some, lost_holds, stood_lasts, at_place, fallen_stands, lasting_stands, resting_stands, rings_stands, up_is, lost_is}
+use Rattle.runs.proofs.Pictured.{lost_some, lost_holds, at_place, fallen_stands, lasting_stands, resting_stands, rings_stands, up_is, lost_is}
 use Rattle.runs.proofs.Going.{Going}
 use Rattle.runs.proofs.Fallen.{none_of}
-use Rattle.runs.proofs.Same.{closes_same, held_same, rings_same, outcome_same}
+use Rattle.runs.proofs.Same.{held_same, rings_same, outcome_same}
 
 -- where the rule refuses nothing, what becomes of the box is what it says
 ruled_so : {K : Type 0} (leads : K → K → Bool) (b : Held K) (h : Heard K) (o : Outcome K) → ruled leads b h ≡ Ok o → ruled_outcome leads b h ≡ o
@@ -68,7 +63,7 @@ module _ {K : Type 0} (leads : K → K → Bool) (image : K → List ℕ) (unope
         by (inr e) = e
         by (inl e) =
             let there : slice_get (row_by leads h) p ≡ Some (stand_of (rings (record { 0 = h.closed }) (rule.estimate h leads p h.closed))) =
-                at_place leads h allowed.size p ∙ ap (λ t. cond t (Some (stand_by leads h p)) None) (let k : ltb p h.n ≡ true = grind (arith, nat_tests) in k) ∙ ap Some (rings_stands leads h allowed.size image unopened p c e) in
+            at_place leads h allowed.size p ∙ ap (λ t. cond t (Some (stand_by leads h p)) None) (let k : ltb p h.n ≡ true = grind (arith, nat_tests) in k) ∙ ap Some (rings_stands leads h allowed.size image unopened p c e) in
             absurd (both_ways (has_rung (stand_of (rings (record { 0 = h.closed }) (rule.estimate h leads p h.closed)))) (list_none has_rung s.row still p _ there) refl)
 
     at_rest_there : (p : ℕ) → p < h.n → closes h.falls p h.closed ≡ true → slice_get (row_by leads h) p ≡ Some (at_rest (held_after h leads p h.closed))

@@ -1,7 +1,7 @@
 use Rattle.std.proofs.Common.{arith}
 use Rattle.std.proofs.lemmas.Bool.Decides.{nat_tests}
 use Rattle.wire.specs.Meaning.{falling}
-use Rattle.ringing.proofs.Wires.{falling_member, few}
+use Rattle.ringing.proofs.Wires.{falling_member}
 use Rattle.ringing.proofs.check.check_fall.Goals as goal
 
 pub returns-then-not-contains : goal.returns-then-not-contains

@@ -1,9 +1,7 @@
-use Rattle.std.proofs.Common.{◌≡◌, ◌+◌, ◌<◌, ◌≤◌, Ok, Err, Some, refl, sym, ap, ◌∙◌, subst, arith}
+use Rattle.std.proofs.Common.{◌≡◌, ◌+◌, Ok, refl, sym, ap, ◌∙◌, subst, arith}
 use Rattle.std.specs.Result.{result_map_both, result_unwrap_or}
 use Rattle.frames.specs.Faults.{map_fault}
-use Rattle.boxes.specs.Rounds.{outcome, closing}
-use Rattle.boxes.specs.Rule.{ruled_outcome}
-use Rattle.rows.specs.Calls.{heard_by}
+use Rattle.boxes.specs.Rounds.{closing}
 use Rattle.ringing.proofs.Hearing.{heard_below, ok_same, start, skips, tells_more, closes_so}
 use Rattle.boxes.proofs.Shown.{Shows}
 use Rattle.ringing.proofs.exchange.close_box.Goals as goal
@@ -13,10 +11,11 @@ pub loop-q-init : goal.loop-q-init
 loop-q-init g c =
     let k = g.K.Kind in
     let m = g.met.K.Kind in
-    let b = c.args.b in
-    (c.open-listening.ensures.resting,
-    λ s r at. subst (λ n. Shows k.leads b n (heard_below s b.held.number.0 0)) (sym c.open-listening.ensures.notes)
-    (start k.leads m.total m.transitive m.antisymmetric k.SIZE k.named k.image (g.W.Wire.meaning c.args.wire.now) (g.met.W.Wire.formed c.args.wire.now) s r b at))
+    let b = c.args.b in (
+      c.open-listening.ensures.resting,
+      λ s r at. subst (λ n. Shows k.leads b n (heard_below s b.held.number.0 0)) (sym c.open-listening.ensures.notes)
+          (start k.leads m.total m.transitive m.antisymmetric k.SIZE k.named k.image (g.W.Wire.meaning c.args.wire.now) (g.met.W.Wire.formed c.args.wire.now) s r b at),
+    )
 
 pub returns-in_err-hear_box : goal.returns-in_err-hear_box
 returns-in_err-hear_box g c = λ s r at.
@@ -26,7 +25,7 @@ returns-in_err-hear_box g c = λ s r at.
     let l = c.loop-q.listening in
     let other : c.loop-q.q ≡ b.held.number.0 → ⊥ = λ e. c.if-q-number.true (e ∙ sym (ap (λ x. x.0) c.number.ensures)) in
     let more = tells_more k.leads m.total m.transitive m.antisymmetric k.SIZE k.named k.image (g.W.Wire.meaning c.args.wire.now) (g.met.W.Wire.formed c.args.wire.now) s r b at
-        c.loop-q.q l.notes (omega (arith, c.n-q-end.ensures)) other (c.loop-q.invariant.1 s r at) l.resting c.loop-q.invariant.0 in
+    c.loop-q.q l.notes (omega (arith, c.n-q-end.ensures)) other (c.loop-q.invariant.1 s r at) l.resting c.loop-q.invariant.0 in
     let ok : c.hear_box.result ≡ Ok tt = c.hear_box.ensures.answer more.1 ∙ ap (result_map_both (λ _. tt) (λ e. e)) more.2 in
     absurd (grind (arith, ok, c.in_err-hear_box.was))
 
@@ -37,18 +36,21 @@ loop-q-preserved g c =
     let b = c.args.b in
     let l = c.loop-q.listening in
     elim c.if-q-number.branch [
-      then-q-number+in_ok-hear_box w ↦ (
-      let other : c.loop-q.q ≡ b.held.number.0 → ⊥ = λ e. w.if-q-number.true (e ∙ sym (ap (λ x. x.0) c.number.ensures)) in
-      (ap (λ x. x.resting) w.listening-is ∙ w.hear_box.ensures.resting ∙ c.loop-q.invariant.0,
-      λ s r at.
-      let more = tells_more k.leads m.total m.transitive m.antisymmetric k.SIZE k.named k.image (g.W.Wire.meaning c.args.wire.now) (g.met.W.Wire.formed c.args.wire.now) s r b at
-          c.loop-q.q l.notes (omega (arith, c.n-q-end.ensures)) other (c.loop-q.invariant.1 s r at) l.resting c.loop-q.invariant.0 in
-      subst (λ n. Shows k.leads b n (heard_below s b.held.number.0 (c.loop-q.q + 1))) (sym (ap (λ x. x.notes) w.listening-is ∙ w.hear_box.ensures.notes more.1 ∙ ap (λ r. result_unwrap_or r l.notes) more.2)) more.3))
-    | else-q-number w ↦ (
-      (ap (λ x. x.resting) w.listening-is ∙ c.loop-q.invariant.0,
-      λ s r at. subst (λ n. Shows k.leads b n (heard_below s b.held.number.0 (c.loop-q.q + 1))) (sym (ap (λ x. x.notes) w.listening-is))
-      (skips k.leads m.total m.transitive m.antisymmetric k.SIZE k.named k.image (g.W.Wire.meaning c.args.wire.now) (g.met.W.Wire.formed c.args.wire.now) s r b at
-      c.loop-q.q l.notes (w.if-q-number.false ∙ ap (λ x. x.0) c.number.ensures) (c.loop-q.invariant.1 s r at)))) ]
+      | then-q-number+in_ok-hear_box w ↦ (
+          let other : c.loop-q.q ≡ b.held.number.0 → ⊥ = λ e. w.if-q-number.true (e ∙ sym (ap (λ x. x.0) c.number.ensures)) in (
+            ap (λ x. x.resting) w.listening-is ∙ w.hear_box.ensures.resting ∙ c.loop-q.invariant.0,
+            λ s r at.
+                let more = tells_more k.leads m.total m.transitive m.antisymmetric k.SIZE k.named k.image (g.W.Wire.meaning c.args.wire.now) (g.met.W.Wire.formed c.args.wire.now) s r b at
+                c.loop-q.q l.notes (omega (arith, c.n-q-end.ensures)) other (c.loop-q.invariant.1 s r at) l.resting c.loop-q.invariant.0 in
+                subst (λ n. Shows k.leads b n (heard_below s b.held.number.0 (c.loop-q.q + 1))) (sym (ap (λ x. x.notes) w.listening-is ∙ w.hear_box.ensures.notes more.1 ∙ ap (λ r. result_unwrap_or r l.notes) more.2)) more.3,
+          ))
+      | else-q-number w ↦ ((
+        ap (λ x. x.resting) w.listening-is ∙ c.loop-q.invariant.0,
+        λ s r at. subst (λ n. Shows k.leads b n (heard_below s b.held.number.0 (c.loop-q.q + 1))) (sym (ap (λ x. x.notes) w.listening-is))
+            (skips k.leads m.total m.transitive m.antisymmetric k.SIZE k.named k.image (g.W.Wire.meaning c.args.wire.now) (g.met.W.Wire.formed c.args.wire.now) s r b at
+            c.loop-q.q l.notes (w.if-q-number.false ∙ ap (λ x. x.0) c.number.ensures) (c.loop-q.invariant.1 s r at)),
+      ))
+    ]
 
 pub returns-in-Ok : goal.returns-in-Ok
 returns-in-Ok g c = λ s r at.

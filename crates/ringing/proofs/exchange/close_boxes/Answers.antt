@@ -1,5 +1,4 @@
-use Rattle.std.proofs.Common.{◌≡◌, ◌<◌, ◌≤◌, length, map, Ok, Some, refl, sym, ap, ◌∙◌, option_map, arith}
-use Rattle.std.specs.List.{slice_get}
+use Rattle.std.proofs.Common.{◌<◌, length, refl, ap, arith}
 use Rattle.std.specs.Result.{result_map_both}
 use Rattle.rows.specs.Places.{shown}
 use Rattle.rows.specs.Calls.{stand_after}

@@ -1,6 +1,5 @@
-use Rattle.std.proofs.Common.{◌≡◌, ◌≤◌, ◌<◌, length, take, Ok, Some, None, refl, sym, ap, ◌∙◌, arith}
+use Rattle.std.proofs.Common.{◌<◌, take, Ok, refl, sym, ap, ◌∙◌, arith}
 use Rattle.std.specs.Result.{result_map_both, result_unwrap_or}
-use Rattle.frames.specs.Frames.{longest_frame}
 use Rattle.boxes.specs.Faults.{refusal_of}
 use Rattle.boxes.specs.Rounds.{hearing}
 use Rattle.wire.specs.Meaning.{heard}
@@ -12,22 +11,22 @@ pub returns-in_err-length : goal.returns-in_err-length
 returns-in_err-length g c =
     let m = g.W.Wire.meaning c.args.wire.now in
     let never = λ (l : c.args.listening.now.resting.held.number.0 < m.n).
-        fetched_never m (g.met.W.Wire.formed c.args.wire.now) c.number.result.0 c.args.q.0 c.args.line.now c.fetch.new.out c.fetch.result c.requires.sender c.requires.room
-        c.fetch.ensures.answer c.fetch.ensures.bytes c.in_err-length.field-0.0 (omega (arith, l, ap (λ x. x.0) c.number.ensures)) c.in_err-length.was in
+    fetched_never m (g.met.W.Wire.formed c.args.wire.now) c.number.result.0 c.args.q.0 c.args.line.now c.fetch.new.out c.fetch.result c.requires.sender c.requires.room
+    c.fetch.ensures.answer c.fetch.ensures.bytes c.in_err-length.field-0.0 (omega (arith, l, ap (λ x. x.0) c.number.ensures)) c.in_err-length.was in
     record { resting = refl; answer = λ l. absurd (never l); notes = λ l. absurd (never l) }
 
 pub slice_bounds-tell-end : goal.slice_bounds-tell-end
 slice_bounds-tell-end g c =
     let m = g.W.Wire.meaning c.args.wire.now in
     let f = fetched_some m (g.met.W.Wire.formed c.args.wire.now) c.number.result.0 c.args.q.0 c.args.line.now c.fetch.new.out c.fetch.result c.requires.sender c.requires.room
-        c.fetch.ensures.answer c.fetch.ensures.bytes c.in-Some.length (c.in_ok-length.was ∙ ap Ok c.in-Some.is) in
+    c.fetch.ensures.answer c.fetch.ensures.bytes c.in-Some.length (c.in_ok-length.was ∙ ap Ok c.in-Some.is) in
     f.0
 
 pub slice_bounds-tell-end-in-Some : goal.slice_bounds-tell-end-in-Some
 slice_bounds-tell-end-in-Some g c =
     let m = g.W.Wire.meaning c.args.wire.now in
     let f = fetched_some m (g.met.W.Wire.formed c.args.wire.now) c.number.result.0 c.args.q.0 c.args.line.now c.fetch.new.out c.fetch.result c.requires.sender c.requires.room
-        c.fetch.ensures.answer c.fetch.ensures.bytes c.in-Some.length (c.in_ok-length.was ∙ ap Ok c.in-Some.is) in
+    c.fetch.ensures.answer c.fetch.ensures.bytes c.in-Some.length (c.in_ok-length.was ∙ ap Ok c.in-Some.is) in
     taken_length c.in-Some.length c.fetch.new.out f.0
 
 pub returns-in-Some : goal.returns-in-Some
@@ -36,7 +35,7 @@ returns-in-Some g c =
     let l = c.args.listening.now in
     let k = g.K.Kind in
     let f = fetched_some m (g.met.W.Wire.formed c.args.wire.now) c.number.result.0 c.args.q.0 c.args.line.now c.fetch.new.out c.fetch.result c.requires.sender c.requires.room
-        c.fetch.ensures.answer c.fetch.ensures.bytes c.in-Some.length (c.in_ok-length.was ∙ ap Ok c.in-Some.is) in
+    c.fetch.ensures.answer c.fetch.ensures.bytes c.in-Some.length (c.in_ok-length.was ∙ ap Ok c.in-Some.is) in
     let told = ap (told_notes k.leads k.SIZE k.named l.resting.held l.notes) (ap (λ x. heard m x.0 c.args.q.0) (sym c.number.ensures) ∙ f.1) in
     let h = hearing k.leads k.SIZE k.named l.resting.held l.notes (take c.in-Some.length c.fetch.new.out) in
     record {
@@ -51,6 +50,6 @@ returns-in-None g c =
     let l = c.args.listening.now in
     let k = g.K.Kind in
     let f = fetched_none m (g.met.W.Wire.formed c.args.wire.now) c.number.result.0 c.args.q.0 c.args.line.now c.fetch.new.out c.fetch.result c.requires.sender c.requires.room
-        c.fetch.ensures.answer c.fetch.ensures.bytes (c.in_ok-length.was ∙ ap Ok c.in-None.is) in
+    c.fetch.ensures.answer c.fetch.ensures.bytes (c.in_ok-length.was ∙ ap Ok c.in-None.is) in
     let told = ap (told_notes k.leads k.SIZE k.named l.resting.held l.notes) (ap (λ x. heard m x.0 c.args.q.0) (sym c.number.ensures) ∙ f) in
     record { resting = refl; answer = λ _. sym (ap (result_map_both (λ _. tt) (λ e. e)) told); notes = λ _. sym (ap (λ r. result_unwrap_or r l.notes) told) }

@@ -1,4 +1,4 @@
-use Rattle.std.proofs.Common.{◌≡◌, Ok, Some, refl, sym, ap, ◌∙◌, arith}
+use Rattle.std.proofs.Common.{Ok, Some, sym, ap, ◌∙◌}
 use Rattle.std.specs.Result.{result_map_both}
 use Rattle.sets.specs.Masks.{member}
 use Rattle.boxes.specs.Rounds.{outcome}
@@ -13,7 +13,7 @@ returns-then-contains g c = λ s p r round at.
     let k = g.K.Kind in
     let here = at ∙ ap (λ x. Some (shown x)) c.in-Resting.is in
     let falls = falls_down k.leads k.SIZE k.named k.image (g.W.Wire.meaning c.args.wire.now) (g.met.W.Wire.formed c.args.wire.now) s r c.in-Resting.b p here
-        c.falling.result c.falling.ensures (ap (member c.falling.result) (ap (λ x. x.0) (sym c.number.ensures)) ∙ sym c.contains.ensures ∙ c.if-contains.true) in
+    c.falling.result c.falling.ensures (ap (member c.falling.result) (ap (λ x. x.0) (sym c.number.ensures)) ∙ sym c.contains.ensures ∙ c.if-contains.true) in
     ap (λ x. Ok (down x)) round ∙ ap Ok falls ∙ ap (λ x. Ok (stand_after k.leads s p (shown x))) (sym c.in-Resting.is)
 
 pub returns-in_ok-close_box-in-Resting : goal.returns-in_ok-close_box-in-Resting
@@ -24,6 +24,6 @@ returns-in_ok-close_box-in-Resting g c = λ s p r round at.
     let closes = c.close_box.ensures s r (own_place k.leads k.SIZE k.named k.image (g.W.Wire.meaning c.args.wire.now) (g.met.W.Wire.formed c.args.wire.now) s r b p here) in
     let out = ok_same _ _ _ (ap (result_map_both outcome (λ e. e)) c.in_ok-close_box-in-Resting.was) closes in
     let stays = stays_up k.leads k.SIZE k.named k.image (g.W.Wire.meaning c.args.wire.now) (g.met.W.Wire.formed c.args.wire.now) s r b p here
-        c.falling.result c.falling.ensures (ap (member c.falling.result) (ap (λ x. x.0) (sym c.number.ensures)) ∙ sym c.contains.ensures ∙ c.if-contains.false) in
+    c.falling.result c.falling.ensures (ap (member c.falling.result) (ap (λ x. x.0) (sym c.number.ensures)) ∙ sym c.contains.ensures ∙ c.if-contains.false) in
     let into = c.into.ensures in
     ap Ok (into ∙ ap stand_of out ∙ stays) ∙ ap (λ x. Ok (stand_after k.leads s p (shown x))) (sym c.in-Resting.is)

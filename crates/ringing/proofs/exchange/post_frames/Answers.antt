@@ -1,9 +1,9 @@
-use Rattle.std.proofs.Common.{◌≡◌, ◌<◌, ◌≤◌, length, map, Ok, Some, None, refl, sym, ap, ◌∙◌, option_map, arith}
+use Rattle.std.proofs.Common.{◌≡◌, length, Ok, Some, refl, sym, ap, ◌∙◌, arith}
 use Rattle.std.proofs.lemmas.List.{length-map}
 use Rattle.frames.specs.Frames.{frame_bytes}
 use Rattle.boxes.specs.Boxes.{frame_of}
 use Rattle.wire.specs.Meaning.{posting, answer, or_kept}
-use Rattle.rows.specs.Places.{at_rest, shown}
+use Rattle.rows.specs.Places.{shown}
 use Rattle.rows.specs.Calls.{frame_at}
 use Rattle.ringing.proofs.Posting.{posted_below, stands_at, not_resting, nobody_yet, none_more, posts_one, all_posted}
 use Rattle.ringing.proofs.exchange.post_frames.Goals as goal
@@ -22,7 +22,7 @@ returns-in_err-post_frame g c = λ s wire row goes none.
     let at = stands_at s.row c.args.row.now row i c.place-item.result c.loop-place-test.true c.place-item.is ∙ ap (λ x. Some (shown x)) c.in-Resting.is in
     let posts = posts_one k.leads k.SIZE k.named k.image s goes none i b at in
     let ok : c.post_frame.result ≡ Ok tt =
-        c.post_frame.ensures.answer ∙ ap (λ m. answer (posting b.number.0 (frame_bytes k.image (frame_of b)) m)) (c.loop-place.invariant s wire row goes none) ∙ ap answer posts in
+    c.post_frame.ensures.answer ∙ ap (λ m. answer (posting b.number.0 (frame_bytes k.image (frame_of b)) m)) (c.loop-place.invariant s wire row goes none) ∙ ap answer posts in
     absurd (grind (arith, ok, c.in_err-post_frame.was))
 
 pub loop-place-preserved : goal.loop-place-preserved
@@ -32,13 +32,14 @@ loop-place-preserved g c = λ s wire row goes none.
     let at = stands_at s.row c.args.row.now row i c.place-item.result c.loop-place-test.true c.place-item.is in
     let before = c.loop-place.invariant s wire row goes none in
     elim c.match-place.branch [
-      in-Resting+in_ok-post_frame w ↦ (
-      let b = w.in-Resting.b.held in
-      let posts = posts_one k.leads k.SIZE k.named k.image s goes none i b (at ∙ ap (λ x. Some (shown x)) w.in-Resting.is) in
-      ap g.W.Wire.meaning w.wire-is ∙ w.post_frame.ensures.meaning ∙ ap (λ m. or_kept m (posting b.number.0 (frame_bytes k.image (frame_of b)) m)) before
-      ∙ ap (or_kept (posted_below k.leads k.SIZE k.named k.image s goes none i)) posts)
-    | in_default w ↦ (
-      ap g.W.Wire.meaning w.wire-is ∙ before ∙ none_more k.leads k.SIZE k.named k.image s goes none i (ap frame_at at ∙ not_resting c.place-item.result w.in_default.not-Resting)) ]
+      | in-Resting+in_ok-post_frame w ↦ (
+          let b = w.in-Resting.b.held in
+          let posts = posts_one k.leads k.SIZE k.named k.image s goes none i b (at ∙ ap (λ x. Some (shown x)) w.in-Resting.is) in
+          ap g.W.Wire.meaning w.wire-is ∙ w.post_frame.ensures.meaning ∙ ap (λ m. or_kept m (posting b.number.0 (frame_bytes k.image (frame_of b)) m)) before
+          ∙ ap (or_kept (posted_below k.leads k.SIZE k.named k.image s goes none i)) posts)
+      | in_default w ↦ (
+          ap g.W.Wire.meaning w.wire-is ∙ before ∙ none_more k.leads k.SIZE k.named k.image s goes none i (ap frame_at at ∙ not_resting c.place-item.result w.in_default.not-Resting))
+    ]
 
 pub returns : goal.returns
 returns g c = λ s wire row goes none.

@@ -1,4 +1,4 @@
-use Rattle.std.proofs.Common.{◌≡◌, true, false, eqb, ap, sym, ◌∙◌, arith}
+use Rattle.std.proofs.Common.{◌≡◌, true, false, ap, sym, ◌∙◌, arith}
 use Rattle.std.proofs.lemmas.Bool.Decides.{nat_tests}
 use Rattle.sets.specs.Tests.{any}
 use Rattle.rows.specs.Calls.{is_gone, bad_wire, making}
@@ -11,11 +11,12 @@ unfolding making
 returns-then-n g c =
     let m = g.W.Wire.meaning c.args.wire.now in
     let bad : bad_wire c.args.n m ≡ true = elim c.then-n.branch [
-      then-n-via-then-n w ↦ (grind (arith, nat_tests, w.if-n.true, c.n.ensures))
-    | then-n-via-else-n+then-ne w ↦ (let n : m.n ≡ c.args.n = grind (arith, nat_tests, w.if-n.false, c.n.ensures) in
-        let s = some_gone m (g.met.W.Wire.formed c.args.wire.now) w.gone.result w.empty.result w.gone.ensures w.empty.ensures in
-        let k : any (is_gone m) c.args.n ≡ true = ap (any (is_gone m)) (sym n) ∙ s ∙ sym w.ne.ensures ∙ w.if-ne.true in
-        grind arith) ] in
+      | then-n-via-then-n w ↦ (grind (arith, nat_tests, w.if-n.true, c.n.ensures))
+      | then-n-via-else-n+then-ne w ↦ (let n : m.n ≡ c.args.n = grind (arith, nat_tests, w.if-n.false, c.n.ensures) in
+          let s = some_gone m (g.met.W.Wire.formed c.args.wire.now) w.gone.result w.empty.result w.gone.ensures w.empty.ensures in
+          let k : any (is_gone m) c.args.n ≡ true = ap (any (is_gone m)) (sym n) ∙ s ∙ sym w.ne.ensures ∙ w.if-ne.true in
+          grind arith)
+    ] in
     grind (arith, nat_tests)
 
 pub returns : goal.returns

@@ -1,12 +1,11 @@
-use Rattle.std.proofs.Common.{◌≡◌, ◌+◌, ◌<◌, true, length, map, Ok, Err, Some, refl, sym, ap, ◌∙◌, arith}
+use Rattle.std.proofs.Common.{length, map, refl, sym, ap, ◌∙◌, arith}
 use Rattle.std.specs.List.{slice_get}
 use Rattle.std.specs.Result.{result_map_both}
 use Rattle.std.proofs.lemmas.Option.{slice_get_read}
 use Rattle.sets.specs.Companies.{company}
 use Rattle.rows.specs.declared.place.Place.TheVariants as place
 use Rattle.rows.specs.Places.{at_rest, shown}
-use Rattle.rows.specs.Calls.{making}
-use Rattle.ringing.proofs.Making.{Makes, makes, held_made, never_refused, filled_more, filled_all}
+use Rattle.ringing.proofs.Making.{makes, held_made, never_refused, filled_more, filled_all}
 use Rattle.ringing.proofs.make.set_up.Goals as goal
 
 pub overflow_cast-p : goal.overflow_cast-p

@@ -1,4 +1,4 @@
-use Rattle.std.proofs.Common.{◌≡◌, ◌+◌, ◌<◌, ◌≤◌, true, false, cond, length, [], Ok, Err, Some, refl, sym, ap, ◌∙◌, below_more, arith}
+use Rattle.std.proofs.Common.{◌≡◌, false, cond, length, [], Ok, Err, Some, refl, sym, ap, ◌∙◌, below_more, arith}
 use Rattle.std.specs.List.{slice_get}
 use Rattle.std.proofs.lemmas.Bool.Decides.{nat_tests}
 use Rattle.std.proofs.lemmas.Option.{slice_get_read, slice_get_within}
@@ -17,8 +17,9 @@ returns-then-row-n g c =
     let r = c.args.self.now in
     let f = g.met.W.Wire.formed r.wire in
     ap (λ b. cond b (Err Row) (Ok tt)) (sym (elim c.then-row-n.branch [
-      then-row-n-via-then-row-n w ↦ short_bad m r.t r.closed c.args.row.now (grind (arith, nat_tests, w.if-row-n.true, c.n.ensures))
-    | then-row-n-via-else-row-n+then-count-self w ↦ gone_bad m r.t r.closed c.args.row.now (let k = gone_count m f w.gone.result w.gone.ensures in grind (arith, nat_tests, w.count.ensures, w.if-count-self.true)) ]))
+      | then-row-n-via-then-row-n w ↦ short_bad m r.t r.closed c.args.row.now (grind (arith, nat_tests, w.if-row-n.true, c.n.ensures))
+      | then-row-n-via-else-row-n+then-count-self w ↦ gone_bad m r.t r.closed c.args.row.now (let k = gone_count m f w.gone.result w.gone.ensures in grind (arith, nat_tests, w.count.ensures, w.if-count-self.true))
+    ]))
 
 pub returns-then-not-may_stand : goal.returns-then-not-may_stand
 returns-then-not-may_stand g c =

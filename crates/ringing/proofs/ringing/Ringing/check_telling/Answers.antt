@@ -1,7 +1,4 @@
-use Rattle.std.proofs.Common.{◌≡◌, ◌<◌, ◌≤◌, true, false, Ok, Err, sym, ap, ◌∙◌, map, arith}
-use Rattle.std.specs.List.{list_any}
-use Rattle.rows.specs.Places.{shown}
-use Rattle.rows.specs.Calls.{State, gone, bad_row, over, has_rung}
+use Rattle.std.proofs.Common.{sym, ◌∙◌, arith}
 use Rattle.ringing.specs.States.{state}
 use Rattle.ringing.proofs.Rows.{gone_count, over_is}
 use Rattle.ringing.proofs.Falls.{is_checked, not_checked, tell_bad, tell_over, answer_refused, answer_spent, answer_ok}

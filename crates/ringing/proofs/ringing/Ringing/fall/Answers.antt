@@ -1,11 +1,10 @@
-use Rattle.std.proofs.Common.{◌≡◌, true, ap, sym, ◌∙◌, Ok, arith}
+use Rattle.std.proofs.Common.{ap, sym, ◌∙◌}
 use Rattle.sets.specs.Companies.{company}
 use Rattle.wire.specs.Meaning as wire
 use Rattle.wire.specs.Meaning.{Meaning, falling}
-use Rattle.rows.specs.Calls.{State, telling, answer, or_kept}
+use Rattle.rows.specs.Calls.{answer, or_kept}
 use Rattle.ringing.specs.States.{state}
 use Rattle.ringing.proofs.Falls.{told_ok, falls_size}
-use Rattle.ringing.proofs.ringing.Ringing.fall.Given as given
 use Rattle.ringing.proofs.ringing.Ringing.fall.Goals as goal
 
 pub invariant_of-self : goal.invariant_of-self

@@ -1,6 +1,6 @@
-use Rattle.std.proofs.Common.{◌≡◌, length, Ok, Err, IfOk, sym, ap, ◌∙◌, arith}
+use Rattle.std.proofs.Common.{length, Ok, sym, ap, ◌∙◌}
 use Rattle.frames.specs.Faults.{map_fault}
-use Rattle.rows.specs.Calls.{State, making}
+use Rattle.rows.specs.Calls.{making}
 use Rattle.ringing.proofs.Making.{makes, makes_not, if_made}
 use Rattle.ringing.proofs.ringing.Ringing.make.Goals as goal
 

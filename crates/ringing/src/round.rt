@@ -1,0 +1,40 @@
+// A round of a ringing.
+ghost use Rattle.std.specs.Prelude.{◌≡◌, length, replicate};
+
+use super::exchange::exchange_frames;
+use super::guard::LineGuard;
+use super::ringing::Ringing;
+use kinds::Kind;
+use numbers::Refusal;
+use rows::{Place, rows_stand};
+use sets::RoundNumber;
+use wire::Wire;
+
+impl<W: Wire> Ringing<W> {
+    ghost use Rattle.rows.specs.Calls.{playing, answer, or_kept};
+    ghost use Rattle.ringing.specs.States.{state};
+
+    // Plays a round: every box that is up posts its frame, every box that is not falling hears the others and closes, and those that
+    // are falling are then down. It needs line bytes for the longest frame; on every way out they are all zero.
+    pub fn round<K: Kind>(&mut self, row: &mut [Place<K>], line: &mut [u8]) -> Result<(), Refusal>
+        ensures answer { result ≡ answer (playing K.leads K.image (length line.old) (state (W.meaning self.old.wire) self.old.t self.old.closed row.old)) }
+        ensures state { state (W.meaning self.new.wire) self.new.t self.new.closed row.new ≡ or_kept (state (W.meaning self.old.wire) self.old.t self.old.closed row.old) (playing K.leads K.image (length line.old) (state (W.meaning self.old.wire) self.old.t self.old.closed row.old)) }
+        ensures line { line.new ≡ replicate (length line.old) 0 }
+    {
+        let guard = LineGuard { bytes: line };
+        self.play(row, guard.bytes)
+    }
+
+    // The same, with line bytes that are left as they come.
+    fn play<K: Kind>(&mut self, row: &mut [Place<K>], line: &mut [u8]) -> Result<(), Refusal>
+        ensures answer { result ≡ answer (playing K.leads K.image (length line.old) (state (W.meaning self.old.wire) self.old.t self.old.closed row.old)) }
+        ensures state { state (W.meaning self.new.wire) self.new.t self.new.closed row.new ≡ or_kept (state (W.meaning self.old.wire) self.old.t self.old.closed row.old) (playing K.leads K.image (length line.old) (state (W.meaning self.old.wire) self.old.t self.old.closed row.old)) }
+        ensures line { length line.new ≡ length line.old }
+    {
+        let _ = rows_stand::<K>();
+        self.check_playing(row, line.len())?;
+        exchange_frames(&mut self.wire, RoundNumber(self.closed + 1), row, line)?;
+        self.closed += 1;
+        Ok(())
+    }
+}
