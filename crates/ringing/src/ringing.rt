@@ -10,6 +10,8 @@ use runs::calls_follow;
 use sets::{BoxNumber, BoxSet};
 use wire::Wire;
 
+// It holds the wire; the row of its boxes is the caller's.
+#[derive(Drop, Debug)]
 pub struct Ringing<W: Wire> {
     pub(crate) wire: W,
     // How many boxes may fall.
@@ -48,6 +50,14 @@ impl<W: Wire> Ringing<W> {
             Err(refusal) => Err((wire, refusal)),
         }
     }
+
+    // The wire, to look at: what was posted in the last round stands on it.
+    pub fn wire(&self) -> &W
+        ensures { result.now ≡ self.now.wire }
+    {
+        &self.wire
+    }
+
     // Tells that box q falls in the round to come, in which the boxes of its lost set do not hear it.
     pub fn fall<K: Kind>(
         &mut self,
