@@ -24,6 +24,7 @@ use Rattle.wire.specs.Meaning.{Meaning, WellFormed, is_in, is_lost, heard}
 use Rattle.rows.specs.Places.{Stand, at_rest, down, rung}
 use Rattle.rows.specs.Calls.{State, frame_at, sent, hears_on, heard_by}
 use Rattle.rows.specs.Theorems.{Goes}
+use Rattle.rows.proofs.Rounds.{bytes_of}
 use Rattle.ringing.specs.States.{InRound, told_notes}
 
 -- the frames that box p hears of the boxes below m, and its own
@@ -47,13 +48,6 @@ ok_same x y r e d = cc
 or_none : {X : Type 0} (o : Option X) → option_or o None ≡ o
 or_none None = refl
 or_none (Some x) = refl
-
--- what is heard of a box, as bytes
-bytes_of : {X : Type 0} (f : X → List ℕ) (lost up : Bool) (o : Option X) → cond lost None (cond up (option_map f o) None) ≡ option_map f (cond (up && not lost) o None)
-bytes_of f true true o = refl
-bytes_of f true false o = refl
-bytes_of f false true o = refl
-bytes_of f false false o = refl
 
 module _ {K : Type 0} (leads : K → K → Bool) (total : (x y : K) → (leads x y ≡ true) ⊎ (leads y x ≡ true))
     (transitive : (x y z : K) → leads x y ≡ true → leads y z ≡ true → leads x z ≡ true)

@@ -42,12 +42,12 @@ module _ {K : Type 0} (leads : K → K → Bool) (image : K → List ℕ) (room 
 module _ {K : Type 0} (leads : K → K → Bool) (size : ℕ) (named : List ℕ → Option K) (image : K → List ℕ) (s : State K) (goes : Goes leads size named image s) where
   -- what is posted does not count for it
   pub goes_opened : Goes leads size named image (record s { wire = opened s.wire })
-  goes_opened = record { places = goes.places; ahead = goes.ahead; own = goes.own; posts = goes.posts; hears = goes.hears; closes = goes.closes }
+  goes_opened = record { places = goes.places; ahead = goes.ahead; own = goes.own; posts = goes.posts; fetches = goes.fetches; hears = goes.hears; closes = goes.closes }
 
   pub in_round : (w : Meaning) → w ≡ carried image s → InRound leads size named image w (record s { wire = carried image s })
   in_round w e = record {
     wire = sym e;
-    goes = record { places = goes.places; ahead = goes.ahead; own = goes.own; posts = goes.posts; hears = goes.hears; closes = goes.closes };
+    goes = record { places = goes.places; ahead = goes.ahead; own = goes.own; posts = goes.posts; fetches = goes.fetches; hears = goes.hears; closes = goes.closes };
     carries = λ q. refl;
   }
 

@@ -26,10 +26,6 @@ not_resting (place.Resting b) other = absurd (other b refl)
 not_resting (place.Down r) other = refl
 not_resting (place.Rung x) other = refl
 
-posts_ok : (q : ℕ) (f : List ℕ) (m : Meaning) → q < m.n → member m.up q ≡ true → is_some (m.posted q) ≡ false → is_postable f ≡ true → posting q f m ≡ Ok (carrying q f m)
-unfolding posting
-posts_ok q f m l up new fits = grind (arith, nat_tests)
-
 module _ {K : Type 0} (leads : K → K → Bool) (size : ℕ) (named : List ℕ → Option K) (image : K → List ℕ) (s : State K) (goes : Goes leads size named image s)
     (none : (q : ℕ) → s.wire.posted q ≡ None) where
   -- the wire when the boxes below m have posted
@@ -54,30 +50,21 @@ module _ {K : Type 0} (leads : K → K → Bool) (size : ℕ) (named : List ℕ 
   -- one at rest does, and is not refused
   module _ (i : ℕ) (b : Held K) (here : slice_get s.row i ≡ Some (at_rest b)) where
     pub posts_one : posting b.number.0 (frame_bytes image (frame_of b)) (posted_below i) ≡ Ok (posted_below (i + 1))
-    posts_one = accepted ∙ ap Ok (λ j. record s.wire { posted = λ q. at q (cases_eq q i) j })
+    posts_one =
+        ap (λ n. posting n (frame_bytes image (frame_of b)) (posted_below i)) (goes.own i b here).0
+        ∙ goes.posts i b here (posted_below i) refl refl (ap (λ t. cond t (option_map (frame_bytes image) (sent s i)) None) (let t : ltb i i ≡ false = grind (arith, nat_tests) in t))
+        ∙ ap Ok (λ j. record s.wire { posted = λ q. at q (cases_eq q i) j })
       where
-        own : (b.number.0 ≡ i) × (b.n ≡ s.wire.n) × (member s.wire.up i ≡ true)
-        own = goes.own i b here
-
-        accepted : posting b.number.0 (frame_bytes image (frame_of b)) (posted_below i) ≡ Ok (carrying b.number.0 (frame_bytes image (frame_of b)) (posted_below i))
-        accepted = posts_ok b.number.0 (frame_bytes image (frame_of b)) (posted_below i)
-            (let l = slice_get_within s.row i (at_rest b) here in let n = goes.places in let o = own.0 in omega arith)
-            (ap (member s.wire.up) own.0 ∙ own.2)
-            (ap (λ t. is_some (cond t (option_map (frame_bytes image) (sent s b.number.0)) None)) (let o = own.0 in let t : ltb b.number.0 i ≡ false = grind (arith, nat_tests) in t))
-            (goes.posts i b here)
-
-        at : (q : ℕ) → (q ≡ i) ⊎ (q ≡ i → ⊥) → cond (eqb q b.number.0) (Some (frame_bytes image (frame_of b))) (cond (ltb q i) (option_map (frame_bytes image) (sent s q)) None)
+        at : (q : ℕ) → (q ≡ i) ⊎ (q ≡ i → ⊥) → cond (eqb q i) (Some (frame_bytes image (frame_of b))) (cond (ltb q i) (option_map (frame_bytes image) (sent s q)) None)
             ≡ cond (ltb q (i + 1)) (option_map (frame_bytes image) (sent s q)) None
         at q (inl is) =
             let something : sent s q ≡ Some (frame_of b) = ap (sent s) is ∙ ap frame_at here in
-            let o = own.0 in
-            let t : eqb q b.number.0 ≡ true = grind (arith, nat_tests) in
+            let t : eqb q i ≡ true = grind (arith, nat_tests) in
             let u : ltb q (i + 1) ≡ true = grind (arith, nat_tests) in
             ap (λ t. cond t (Some (frame_bytes image (frame_of b))) (cond (ltb q i) (option_map (frame_bytes image) (sent s q)) None)) t
             ∙ ap (option_map (frame_bytes image)) (sym something) ∙ ap (λ t. cond t (option_map (frame_bytes image) (sent s q)) None) (sym u)
         at q (inr off) =
-            let o = own.0 in
-            let t : eqb q b.number.0 ≡ false = grind (arith, nat_tests) in
+            let t : eqb q i ≡ false = grind (arith, nat_tests) in
             let u : ltb q i ≡ ltb q (i + 1) = grind (arith, nat_tests) in
             λ j. cond (t j) (Some (frame_bytes image (frame_of b))) (cond (u j) (option_map (frame_bytes image) (sent s q)) None)
 

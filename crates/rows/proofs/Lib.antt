@@ -1,4 +1,4 @@
 pub mod Numbered
 pub mod Checked
-mod Rounds
+pub mod Rounds
 mod Places

@@ -1,5 +1,5 @@
 -- A round of a checked row: nothing is refused in it. Assumes nothing.
-use Rattle.std.proofs.Common.{◌≡◌, ℕ, ◌<◌, ◌≤◌, Bool, true, false, not, ◌&&◌, ◌||◌, cond, ltb, List, [], ◌∷◌, map, is_some, Some, None, Ok, Option, sym, refl, ap, ◌∙◌, arith}
+use Rattle.std.proofs.Common.{◌≡◌, ℕ, ◌<◌, ◌≤◌, Bool, true, false, not, ◌&&◌, ◌||◌, cond, ltb, List, [], ◌∷◌, length, map, is_some, Some, None, Ok, Option, option_map, sym, refl, ap, ◌∙◌, subst, arith}
 use Rattle.std.specs.List.{slice_get}
 use Rattle.std.specs.Bool.{⊤}
 use Rattle.std.specs.Result.{result_map_both}
@@ -13,7 +13,7 @@ use Rattle.sets.specs.Masks.{member}
 use Rattle.sets.proofs.Counts.{any_has, none_any, count_le, one_fails}
 use Rattle.sets.proofs.Members.{member_below, member_is, company_member, company_count}
 use Rattle.frames.specs.declared.frame.Frame.{Frame}
-use Rattle.frames.specs.Frames.{frame_bytes}
+use Rattle.frames.specs.Frames.{frame_bytes, longest_frame}
 use Rattle.boxes.specs.declared.states.Held.{Held}
 use Rattle.boxes.specs.declared.states.Notes.{Notes}
 use Rattle.boxes.specs.declared.states.Resting.{Resting}
@@ -22,10 +22,10 @@ use Rattle.boxes.specs.Rounds.{refused, noted, hearing, closed_with}
 use Rattle.boxes.specs.Rule.{tells, not_heard, told_missing, ruled, ruled_outcome}
 use Rattle.boxes.specs.Theorems.{FrameShort, ComposedHeard}
 use Rattle.wire.specs.Kept.{is_postable}
-use Rattle.wire.specs.Meaning.{Meaning, WellFormed, is_lost}
+use Rattle.wire.specs.Meaning.{Meaning, WellFormed, is_lost, heard, carrying, posting, fetching}
 use Rattle.rows.specs.declared.place.Place.{Place}
 use Rattle.rows.specs.Places.{Stand, at_rest, down, rung, shown}
-use Rattle.rows.specs.Calls.{State, is_gone, bad_row, has_rung, over, frame_at, sent, hears_on, heard_by}
+use Rattle.rows.specs.Calls.{State, is_gone, bad_row, has_rung, over, frame_at, sent, hears_on, heard_by, carried}
 use Rattle.rows.specs.Theorems.{RoundGoes}
 use Rattle.rows.proofs.Numbered.{list_none, get_some}
 use Rattle.rows.proofs.Checked.{Rests, places, few_gone, fits, rests_at}
@@ -47,6 +47,23 @@ is_lost_by m p q e = by (m.lost q) refl
     by : (o : Option BoxSet) → m.lost q ≡ o → is_some (m.lost q) ≡ true
     by None is = absurd (grind arith)
     by (Some s) is = ap is_some is
+
+posts_ok : (q : ℕ) (f : List ℕ) (m : Meaning) → q < m.n → member m.up q ≡ true → is_some (m.posted q) ≡ false → is_postable f ≡ true → posting q f m ≡ Ok (carrying q f m)
+unfolding posting
+posts_ok q f m l up new fits = grind (arith, nat_tests)
+
+-- what is heard of a box, as bytes
+pub bytes_of : {X : Type 0} (f : X → List ℕ) (lost up : Bool) (o : Option X) → cond lost None (cond up (option_map f o) None) ≡ option_map f (cond (up && not lost) o None)
+bytes_of f true true o = refl
+bytes_of f true false o = refl
+bytes_of f false true o = refl
+bytes_of f false false o = refl
+
+-- it is given where it has room
+fits_room : (m : Meaning) (p q room : ℕ) (o : Option (List ℕ)) → heard m p q ≡ o → ((f : List ℕ) → o ≡ Some f → length f ≤ room) → p < m.n → q < m.n → fetching p q room m ≡ Ok o
+unfolding fetching
+fits_room m p q room None e short l k = grind (arith, nat_tests)
+fits_room m p q room (Some f) e short l k = let s = short f refl in grind (arith, nat_tests)
 
 module _ {K : Type 0} (leads : K → K → Bool) (s : State K) (row : List (Place K)) (is : s.row ≡ map shown row) (formed : WellFormed s.wire)
     (good : bad_row s ≡ false) (still : over s ≡ false) where
@@ -92,6 +109,10 @@ module _ {K : Type 0} (leads : K → K → Bool) (s : State K) (row : List (Plac
 
       by : (p : ℕ) × (p < s.wire.n) × (is_gone s.wire p ≡ false) → s.closed ≤ s.t
       by (p, l, e) = at_rest_is p (up_rests p (grind arith))
+
+  module _ (image : K → List ℕ) where
+    heard_bytes : (p q : ℕ) → heard (carried image s) p q ≡ option_map (frame_bytes image) (heard_by s p q)
+    heard_bytes p q = bytes_of (frame_bytes image) (is_lost s.wire p q) (member s.wire.up q) (sent s q)
 
   module _ (p : ℕ) (b : Held K) (at : slice_get s.row p ≡ Some (at_rest b)) where
     r : Rests s p b
@@ -143,13 +164,21 @@ module _ {K : Type 0} (leads : K → K → Bool) (s : State K) (row : List (Plac
     unfolding ruled closed_with ruled_outcome
     closes_by = ap (λ t. unless ((t, refusal.Tally) ∷ []) (ruled_outcome leads b (heard_by s p))) tally
 
-    module _ (size : ℕ) (named : List ℕ → Option K) (image : K → List ℕ) where
-      pub posts_by : FrameShort image → is_postable (frame_bytes image (frame_of b)) ≡ true
-      posts_by short = by r.box
-        where
-          by : (a : Resting K) × (a.held ≡ b) → is_postable (frame_bytes image (frame_of b)) ≡ true
-          by (a, e) = ap (λ h. is_postable (frame_bytes image (frame_of h))) (sym e) ∙ (let l = short a in grind (arith, nat_tests))
+    short_of : (image : K → List ℕ) → FrameShort image → (1 ≤ length (frame_bytes image (frame_of b))) × (length (frame_bytes image (frame_of b)) ≤ longest_frame)
+    short_of image short = by r.box
+      where
+        by : (a : Resting K) × (a.held ≡ b) → (1 ≤ length (frame_bytes image (frame_of b))) × (length (frame_bytes image (frame_of b)) ≤ longest_frame)
+        by (a, e) = subst (λ h. (1 ≤ length (frame_bytes image (frame_of h))) × (length (frame_bytes image (frame_of h)) ≤ longest_frame)) e (short a)
 
+    -- a wire on which the box has not posted takes its frame
+    pub posts_by : (image : K → List ℕ) → FrameShort image → (m : Meaning) → m.n ≡ s.wire.n → m.up ≡ s.wire.up → m.posted p ≡ None
+        → posting p (frame_bytes image (frame_of b)) m ≡ Ok (carrying p (frame_bytes image (frame_of b)) m)
+    posts_by image short m n up none =
+        let l = short_of image short in
+        let placed = r.placed in
+        posts_ok p (frame_bytes image (frame_of b)) m (omega arith) (ap (λ u. member u p) up ∙ r.is_up) (ap is_some none) (grind (arith, nat_tests))
+
+    module _ (size : ℕ) (named : List ℕ → Option K) (image : K → List ℕ) where
       -- box p hears what box q sends, which it has not heard before
       pub hears_by : ComposedHeard size named leads image → (q : ℕ) (f : Frame K) → heard_by s p q ≡ Some f → (m : Notes K) → member m.heard q ≡ false
           → hearing leads size named b m (frame_bytes image f) ≡ Ok (noted leads m f)
@@ -173,13 +202,33 @@ module _ {K : Type 0} (leads : K → K → Bool) (s : State K) (row : List (Plac
                   ∙ (λ j. result_map_both {T = ⊤} (λ _. noted leads m (frame_of d.held)) (refused a.held) (unless ((heard j, refusal.Heard) ∷ (down j, refusal.Down) ∷ (bad j, refusal.Set) ∷ []) tt))
                   ∙ ap (λ x. Ok (noted leads m x)) (ap frame_of g ∙ sym same)
 
+-- what reaches a box has room where there is room for the longest frame
+fetches_by : {K : Type 0} (leads : K → K → Bool) (s : State K) (row : List (Place K)) (is : s.row ≡ map shown row) (formed : WellFormed s.wire) (good : bad_row s ≡ false)
+    (still : over s ≡ false) (image : K → List ℕ) → FrameShort image → (p q room : ℕ) → p < s.wire.n → q < s.wire.n → longest_frame ≤ room
+    → fetching p q room (carried image s) ≡ Ok (option_map (frame_bytes image) (heard_by s p q))
+fetches_by {K} leads s row is formed good still image short p q room l k fits =
+    fits_room (carried image s) p q room (option_map (frame_bytes image) (heard_by s p q)) (heard_bytes leads s row is formed good still image p q)
+    (λ f e. by (heard_by s p q) (heard_from leads s row is formed good still p q) f e) l k
+  where
+    of_box : (f : Frame K) → (c : Held K) × (slice_get s.row q ≡ Some (at_rest c)) × (f ≡ frame_of c) → length (frame_bytes image f) ≤ room
+    of_box f (c, here, same) =
+        let z = (short_of leads s row is formed good still q c here image short).1 in
+        let e = ap (λ g. length (frame_bytes image g)) same in
+        omega arith
+
+    by : (o : Option (Frame K)) → ((f : Frame K) → o ≡ Some f → (hears_on s.wire p q ≡ true) × ((c : Held K) × (slice_get s.row q ≡ Some (at_rest c)) × (f ≡ frame_of c)))
+        → (g : List ℕ) → option_map (frame_bytes image) o ≡ Some g → length g ≤ room
+    by None from g e = absurd (grind arith)
+    by (Some f) from g e = let same : frame_bytes image f ≡ g = cc in let z = of_box f (from f refl).1 in let y = ap length same in omega arith
+
 pub round_goes : {K : Type 0} (leads : K → K → Bool) (size : ℕ) (named : List ℕ → Option K) (image : K → List ℕ) → FrameShort image → ComposedHeard size named leads image
     → RoundGoes leads size named image
 round_goes leads size named image short composed s row is formed size_ok good still = record {
   places = places s row is good;
   ahead = rounds_left leads s row is formed good still size_ok;
   own = λ p b at. let r = rests_at s row is good p b at in (r.number, r.n, r.is_up);
-  posts = λ p b at. posts_by leads s row is formed good still p b at size named image short;
+  posts = λ p b at. posts_by leads s row is formed good still p b at image short;
+  fetches = fetches_by leads s row is formed good still image short;
   hears = λ p q b f at came m new. hears_by leads s row is formed good still p b at size named image composed q f came m new;
   closes = λ p b at. closes_by leads s row is formed good still p b at;
 }
