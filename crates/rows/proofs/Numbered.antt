@@ -98,3 +98,7 @@ pub list_none : {X : Type 0} (P : X → Bool) (xs : List X) → list_any P xs �
 list_none P [] e p x at = absurd (grind arith)
 list_none P (y ∷ ys) e zero x at = let here : y ≡ x = cc in ap P (sym here) ∙ grind arith
 list_none P (y ∷ ys) e (suc p) x at = list_none P ys (grind arith) p x at
+
+pub none_list : {X : Type 0} (P : X → Bool) (xs : List X) → ((p : ℕ) (x : X) → slice_get xs p ≡ Some x → P x ≡ false) → list_any P xs ≡ false
+none_list P [] none = refl
+none_list P (y ∷ ys) none = let first = none 0 y refl in let rest = none_list P ys (λ p x at. none (suc p) x at) in grind arith

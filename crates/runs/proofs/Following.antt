@@ -8,10 +8,11 @@ use Rattle.numbers.specs.declared.refusal.Refusal.{Refusal}
 use Rattle.wire.specs.Meaning.{fallen, falling}
 use Rattle.rule.specs.Histories.{History}
 use Rattle.rule.specs.Theorems.{BoxBegins, BoxFollows, OnlyPast, FallToCome}
-use Rattle.rows.specs.Calls.{State, gone, bad_row, over, telling, playing, played, or_kept}
+use Rattle.rows.specs.Calls.{State, gone, bad_row, over, telling, playing, played, or_kept, asking}
 use Rattle.runs.specs.Runs.{Call, fall, round, ask, first_history, noted, is_accepted, after, state_after, history_after, state_by}
 use Rattle.runs.specs.Theorems.{Follows, CallsFollow}
 use Rattle.runs.proofs.Pictured.{row_good, n_is}
+use Rattle.runs.proofs.Accepting.{rounds_are, falls_are, told_is}
 use Rattle.runs.proofs.Going.{Going}
 use Rattle.runs.proofs.Fallen.{none_of, fall_kept}
 use Rattle.runs.proofs.Played.{round_kept}
@@ -81,7 +82,15 @@ module _ {K : Type 0} (leads : K → K → Bool) (image : K → List ℕ) (unope
         by false = g
 
     followed : Follows leads image unopened s h
-    followed = record { allowed = g.allowed; quiet = g.quiet; is = g.is; good = ap bad_row g.is ∙ row_good leads h g.allowed.size image unopened g.due g.allowed.few }
+    followed = record {
+      allowed = g.allowed;
+      quiet = g.quiet;
+      is = g.is;
+      good = ap bad_row g.is ∙ row_good leads h g.allowed.size image unopened g.due g.allowed.few;
+      rounds = λ room. ap (λ x. is_ok (playing leads image room x)) g.is ∙ rounds_are leads image unopened h g.allowed g.due room;
+      falls = λ q lost. ap (λ x. is_ok (telling q lost x)) g.is ∙ falls_are leads image unopened h g.allowed g.due q lost;
+      told = λ p. ap (asking p) g.is ∙ told_is leads image unopened h g.allowed g.due p;
+    }
 
   all : (calls : List Call) (s : State K) (h : History K) → Going leads image unopened s h → Follows leads image unopened (state_after leads image calls s) (history_after leads image calls s h)
   unfolding state_after history_after

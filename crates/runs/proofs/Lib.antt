@@ -4,4 +4,5 @@ mod Same
 mod Fallen
 mod Played
 mod Made
+mod Accepting
 mod Following

@@ -1,0 +1,90 @@
+-- Which calls are accepted, and what is told, by the history. Assumes nothing.
+use Rattle.std.proofs.Common.{◌≡◌, ℕ, zero, suc, ◌+◌, ◌<◌, ◌≤◌, Bool, true, false, cond, not, ◌&&◌, ◌||◌, leb, ltb, ◌⊎◌, List, [], ◌∷◌, map, is_some, Some, None, Ok, Err, Option, option_map, Result, is_ok, sym, refl, ap, ◌∙◌, inl, inr, arith}
+use Rattle.std.specs.List.{list_any, slice_get, range_with_len}
+use Rattle.std.proofs.lemmas.Bool.{cases_Bool, both_ways}
+use Rattle.std.proofs.lemmas.Option.{slice_get_within}
+use Rattle.std.proofs.lemmas.Bool.Decides.{nat_tests}
+use Rattle.numbers.specs.declared.refusal.Refusal.TheVariants.{Stranger}
+use Rattle.numbers.specs.Refusals.{unless}
+use Rattle.sets.specs.declared.labels.BoxNumber.{BoxNumber}
+use Rattle.sets.specs.declared.set.BoxSet.{BoxSet}
+use Rattle.sets.specs.Companies.{company}
+use Rattle.sets.specs.Tests.{any, count}
+use Rattle.sets.specs.Masks.{member}
+use Rattle.sets.proofs.Counts.{any_none, any_has}
+use Rattle.frames.specs.Frames.{longest_frame}
+use Rattle.wire.specs.Meaning.{falling}
+use Rattle.rule.specs.Falls.{fell_before, closes}
+use Rattle.rule.specs.Histories.{History, Allowed}
+use Rattle.rule.specs.Values as rule
+use Rattle.rows.specs.Places.{Stand, rung, standing_of}
+use Rattle.rows.specs.Calls.{State, is_gone, gone, bad_row, has_rung, over, telling, playing, asking}
+use Rattle.rows.proofs.Numbered.{list_none, none_list}
+use Rattle.runs.specs.Runs.{stand_by, row_by, wire_by, state_by}
+use Rattle.runs.specs.Theorems.{somebody_rings, may_fall}
+use Rattle.runs.proofs.Pictured.{at_place, row_length, n_is, up_is, lost_is, gone_is, gone_count, row_good, fallen_stands, resting_stands, rings_stands}
+
+module _ {K : Type 0} (leads : K → K → Bool) (image : K → List ℕ) (unopened : ℕ → Option (List ℕ)) (h : History K) (allowed : Allowed h)
+    (due : (q : ℕ) → is_some (h.falls q) ≡ fell_before (h.falls q) (suc (suc h.closed))) where
+  abbrev s : State K
+  s = state_by leads h image unopened
+
+  good : bad_row s ≡ false
+  good = row_good leads h allowed.size image unopened due allowed.few
+
+  rung_is : (p : ℕ) → has_rung (stand_by leads h p) ≡ (closes h.falls p h.closed && rule.rings h p h.closed)
+  rung_is p = by (cases_Bool (closes h.falls p h.closed)) (cases_Bool (rule.rings h p h.closed))
+    where
+      by : (closes h.falls p h.closed ≡ true) ⊎ (closes h.falls p h.closed ≡ false) → (rule.rings h p h.closed ≡ true) ⊎ (rule.rings h p h.closed ≡ false)
+          → has_rung (stand_by leads h p) ≡ (closes h.falls p h.closed && rule.rings h p h.closed)
+      by (inr c) r = let f = fallen_stands leads h allowed.size p c in ap has_rung f.3 ∙ (grind arith)
+      by (inl c) (inl r) = ap has_rung (rings_stands leads h allowed.size image unopened p c r) ∙ (grind arith)
+      by (inl c) (inr r) = ap has_rung (resting_stands leads h allowed.size image unopened p c r) ∙ (grind arith)
+
+  -- what stands at a place of the company
+  stands : (p : ℕ) → p < h.n → slice_get (row_by leads h) p ≡ Some (stand_by leads h p)
+  stands p l = at_place leads h allowed.size p ∙ ap (λ t. cond t (Some (stand_by leads h p)) None) (let k : ltb p h.n ≡ true = grind (arith, nat_tests) in k)
+
+  over_is : over s ≡ somebody_rings h
+  over_is = by (somebody_rings h) refl
+    where
+      at_is : somebody_rings h ≡ false → (p : ℕ) (x : Stand K) → slice_get (row_by leads h) p ≡ Some x → has_rung x ≡ false
+      at_is none p x at =
+          let l = slice_get_within (row_by leads h) p x at in
+          let len = row_length leads h allowed.size in
+          let k : p < h.n = omega arith in
+          let same : stand_by leads h p ≡ x = (let e = stands p k in cc) in
+          let r = any_none (λ p. closes h.falls p h.closed && rule.rings h p h.closed) h.n none p k in
+          ap has_rung (sym same) ∙ rung_is p ∙ r
+
+      named : (k : ℕ) × (k < h.n) × ((closes h.falls k h.closed && rule.rings h k h.closed) ≡ true) → over s ≡ true
+      named (k, l, e) = from (over s) refl
+        where
+          from : (t : Bool) → over s ≡ t → over s ≡ true
+          from true is = is
+          from false is = absurd (both_ways (has_rung (stand_by leads h k)) (list_none has_rung (row_by leads h) is k (stand_by leads h k) (stands k l)) (rung_is k ∙ e))
+
+      by : (t : Bool) → somebody_rings h ≡ t → over s ≡ somebody_rings h
+      by true is = named (any_has (λ p. closes h.falls p h.closed && rule.rings h p h.closed) h.n is) ∙ sym is
+      by false is = none_list has_rung (row_by leads h) (at_is is) ∙ sym is
+
+  pub rounds_are : (room : ℕ) → is_ok (playing leads image room s) ≡ (leb longest_frame room && not (somebody_rings h))
+  unfolding playing
+  rounds_are room = let g = good in let o = over_is in grind (arith, nat_tests)
+
+  pub falls_are : (q : BoxNumber) (lost : BoxSet) → is_ok (telling q lost s) ≡ may_fall h q.0 lost
+  unfolding telling falling wire_by
+  falls_are q lost =
+      let g = good in
+      let o = over_is in
+      let c = gone_count leads h allowed.size image unopened due in
+      let d = due q.0 in
+      let fell : q.0 < h.n → is_gone s.wire q.0 ≡ is_some (h.falls q.0) = λ l. gone_is leads h allowed.size image unopened q.0 l ∙ sym d in
+      grind (arith, nat_tests)
+
+  pub told_is : (p : BoxNumber) → asking p s ≡ unless ((leb h.n p.0, Stranger) ∷ []) (standing_of (stand_by leads h p.0))
+  unfolding asking
+  told_is p =
+      let g = good in
+      let at = at_place leads h allowed.size p.0 in
+      grind (arith, nat_tests)
