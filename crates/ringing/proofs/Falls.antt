@@ -11,7 +11,7 @@ use Rattle.numbers.specs.Refusals.{unless}
 use Rattle.frames.specs.Faults.{and_then}
 use Rattle.wire.specs.Meaning as wire
 use Rattle.wire.specs.Meaning.{Meaning, falling}
-use Rattle.rows.specs.Calls.{State, gone, bad_row, row_checked, over, going_on, telling, answer}
+use Rattle.rows.specs.Calls.{State, gone_count, bad_row, row_checked, over, going_on, telling, answer}
 
 pub is_checked : {K : Type 0} (s : State K) → Ok tt ≡ row_checked s → bad_row s ≡ false
 is_checked s e = grind arith
@@ -35,9 +35,9 @@ module _ {K : Type 0} (q : BoxNumber) (lost : BoxSet) (s : State K) where
   told_ok e = by (falling q.0 lost s.wire) refl e
     where
       by : (r : Result Meaning Refusal) → falling q.0 lost s.wire ≡ r
-          → Ok tt ≡ answer (and_then (λ e. e) (going_on s) (λ _. and_then (λ e. e) r (λ m. unless ((nat_le s.t (gone s.wire), refusal.Spent) ∷ []) (record s { wire = m }))))
+          → Ok tt ≡ answer (and_then (λ e. e) (going_on s) (λ _. and_then (λ e. e) r (λ m. unless ((nat_le s.t (gone_count s.wire), refusal.Spent) ∷ []) (record s { wire = m }))))
           → (m : Meaning) × (falling q.0 lost s.wire ≡ Ok m)
-          × (and_then (λ e. e) (going_on s) (λ _. and_then (λ e. e) (falling q.0 lost s.wire) (λ m. unless ((nat_le s.t (gone s.wire), refusal.Spent) ∷ []) (record s { wire = m }))) ≡ Ok (record s { wire = m }))
+          × (and_then (λ e. e) (going_on s) (λ _. and_then (λ e. e) (falling q.0 lost s.wire) (λ m. unless ((nat_le s.t (gone_count s.wire), refusal.Spent) ∷ []) (record s { wire = m }))) ≡ Ok (record s { wire = m }))
       by (Ok m) is e = (m, is, grind arith)
       by (Err x) is e = absurd (grind arith)
 
@@ -55,7 +55,7 @@ module _ {K : Type 0} (q : BoxNumber) (lost : BoxSet) (s : State K) where
       unfolding telling
       tell_refused e is = grind arith
 
-      pub tell_spent : (m : Meaning) → falling q.0 lost s.wire ≡ Ok m → s.t ≤ gone s.wire → telling q lost s ≡ Err refusal.Spent
+      pub tell_spent : (m : Meaning) → falling q.0 lost s.wire ≡ Ok m → s.t ≤ gone_count s.wire → telling q lost s ≡ Err refusal.Spent
       unfolding telling
       tell_spent m is l = grind (arith, nat_tests)
 
@@ -65,15 +65,15 @@ module _ {K : Type 0} (q : BoxNumber) (lost : BoxSet) (s : State K) where
         unfolding telling
         answer_refused e is = grind arith
 
-        pub answer_spent : r ≡ Ok tt → s.t ≤ gone s.wire → answer (telling q lost s) ≡ Err refusal.Spent
+        pub answer_spent : r ≡ Ok tt → s.t ≤ gone_count s.wire → answer (telling q lost s) ≡ Err refusal.Spent
         unfolding telling
         answer_spent is l = grind (arith, nat_tests)
 
-        pub answer_ok : r ≡ Ok tt → gone s.wire < s.t → answer (telling q lost s) ≡ Ok tt
+        pub answer_ok : r ≡ Ok tt → gone_count s.wire < s.t → answer (telling q lost s) ≡ Ok tt
         unfolding telling
         answer_ok is l = grind (arith, nat_tests)
 
-      pub tell_ok : (m : Meaning) → falling q.0 lost s.wire ≡ Ok m → gone s.wire < s.t → telling q lost s ≡ Ok (record s { wire = m })
+      pub tell_ok : (m : Meaning) → falling q.0 lost s.wire ≡ Ok m → gone_count s.wire < s.t → telling q lost s ≡ Ok (record s { wire = m })
       unfolding telling
       tell_ok m is l = grind (arith, nat_tests)
 

@@ -11,7 +11,7 @@ use Rattle.sets.proofs.Members.{company_count}
 use Rattle.wire.specs.Meaning.{Meaning, WellFormed}
 use Rattle.rows.specs.declared.place.Place.{Place}
 use Rattle.rows.specs.Places.{Stand, shown}
-use Rattle.rows.specs.Calls.{State, is_gone, gone, misplaced, bad_row, has_rung}
+use Rattle.rows.specs.Calls.{State, is_gone, gone_count, misplaced, bad_row, has_rung}
 use Rattle.rows.proofs.Numbered.{numbered_some, numbered_none}
 use Rattle.ringing.specs.States.{state}
 use Rattle.ringing.proofs.Wires.{few}
@@ -31,8 +31,8 @@ pub not_false : (a b : Bool) → a ≡ not b → a ≡ false → b ≡ true
 not_false a b e is = grind arith
 
 -- the set of the boxes that are down or falling has as many
-pub gone_count : (m : Meaning) → WellFormed m → (s : BoxSet) → s ≡ set_of (λ q. ltb q m.n && is_gone m q) → count (member s) 32 ≡ gone m
-gone_count m w s e = let f = few m w in ap (λ x. count (member x) 32) e ∙ company_count m.n (is_gone m) (omega arith)
+pub gone_counted : (m : Meaning) → WellFormed m → (s : BoxSet) → s ≡ set_of (λ q. ltb q m.n && is_gone m q) → count (member s) 32 ≡ gone_count m
+gone_counted m w s e = let f = few m w in ap (λ x. count (member x) 32) e ∙ company_count m.n (is_gone m) (omega arith)
 
 module _ {K : Type 0} (m : Meaning) (t closed : ℕ) (row : List (Place K)) where
   abbrev s : State K
@@ -45,7 +45,7 @@ module _ {K : Type 0} (m : Meaning) (t closed : ℕ) (row : List (Place K)) wher
   unfolding bad_row
   short_bad e = let l = length_same in grind (arith, nat_tests)
 
-  pub gone_bad : t < gone m → bad_row s ≡ true
+  pub gone_bad : t < gone_count m → bad_row s ≡ true
   unfolding bad_row
   gone_bad l = grind (arith, nat_tests)
 
@@ -55,7 +55,7 @@ module _ {K : Type 0} (m : Meaning) (t closed : ℕ) (row : List (Place K)) wher
       let n = numbered_some (misplaced s) s.row p (shown x) (slice_get-map shown row p ∙ ap (option_map shown) at) e in
       grind arith
 
-  pub row_good : length row ≡ m.n → gone m ≤ t → ((p : ℕ) (x : Place K) → slice_get row p ≡ Some x → misplaced s p (shown x) ≡ false) → bad_row s ≡ false
+  pub row_good : length row ≡ m.n → gone_count m ≤ t → ((p : ℕ) (x : Place K) → slice_get row p ≡ Some x → misplaced s p (shown x) ≡ false) → bad_row s ≡ false
   unfolding bad_row
   row_good len few fits =
       let l = length_same in

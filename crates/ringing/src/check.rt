@@ -43,7 +43,8 @@ pub(crate) fn gone<W: Wire>(wire: &W) -> BoxSet
     down(wire).union(wire.falling())
 }
 
-// Whether the wire lets box q fall with this lost set, or why not.
+// Whether the wire lets box q fall with this lost set, or why not. Asked before it is told, since a fall cannot be taken back, and how
+// many have fallen counts after this.
 #[tactic(auto, unfolding(wire::specs::Meaning::falling))]
 pub(crate) fn check_fall<W: Wire>(wire: &W, q: BoxNumber, lost: BoxSet) -> Result<(), Refusal>
     ensures { result ≡ answer (falling q.0 lost (W.meaning wire.now)) }
@@ -85,7 +86,9 @@ impl<W: Wire> Ringing<W> {
         match place {
             Place::Resting(b) => is_up && self.is_own(p, b),
             Place::Down(_) => !is_up,
-            Place::Rung(rung) => is_up && rung.round == RoundNumber(self.closed),
+            Place::Rung(rung) => {
+                is_up && self.closed > 0 && rung.round == RoundNumber(self.closed)
+            }
         }
     }
 

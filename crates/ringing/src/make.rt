@@ -35,7 +35,7 @@ fn check_making<W: Wire, K: Kind>(
     Ok(())
 }
 
-// A function of its own, since the size of a place hangs on the kind of proposal.
+// By itself, since the prover bounds the place in memory of an element of unknown size only in a function that does no more.
 fn put<K: Kind>(row: &mut [Place<K>], p: usize, place: Place<K>)
     requires { p < length row.old }
     ensures { row.new ≡ set row.old p place }

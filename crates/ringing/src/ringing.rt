@@ -32,7 +32,8 @@ impl<W: Wire> Ringing<W> {
     ghost use Rattle.ringing.specs.States.{state};
 
     // Makes a ringing of n boxes, of which t may fall, over a wire, and sets up a new box with its proposal in each place of the
-    // row. A refused make gives the wire back and leaves the row as it was.
+    // row. A refused make gives the wire back and leaves the row as it was. After an accepted one, whatever calls follow, accepted or
+    // refused, the ringing and its row are those of the history of the calls.
     pub fn make<K: Kind>(
         n: u32,
         t: u32,
@@ -42,7 +43,7 @@ impl<W: Wire> Ringing<W> {
     ) -> Result<Ringing<W>, (W, Refusal)>
         ensures ringing { result_map_both (λ r. state (W.meaning r.wire) r.t r.closed row.new) (λ e. e) result ≡ map_fault (λ e. (wire, e)) (making n t (W.meaning wire) (length row.old) proposals.now) }
         ensures refused { OnErr result (row.new ≡ row.old) }
-        ensures follows { IfOk (making n t (W.meaning wire) (length row.old) proposals.now) (λ s. (past_end : K) (calls : List Call) → Follows K.leads K.image (W.meaning wire).posted (state_after K.leads K.image calls s) (history_after K.leads K.image calls s (first_history n t proposals.now past_end))) }
+        ensures follows { let m = W.meaning wire in IfOk (making n t m (length row.old) proposals.now) (λ s. (past_end : K) (calls : List Call) → let h = history_after K.leads K.image calls s (first_history n t proposals.now past_end) in Follows K.leads K.image m.posted (state_after K.leads K.image calls s) h) }
     {
         let _ = calls_follow::<K>();
         match set_up(n, t, &wire, row, proposals) {
@@ -65,8 +66,8 @@ impl<W: Wire> Ringing<W> {
         q: BoxNumber,
         lost: BoxSet,
     ) -> Result<(), Refusal>
-        ensures answer { result ≡ answer (telling q lost (state (W.meaning self.old.wire) self.old.t self.old.closed row.now)) }
-        ensures state { state (W.meaning self.new.wire) self.new.t self.new.closed row.now ≡ or_kept (state (W.meaning self.old.wire) self.old.t self.old.closed row.now) (telling q lost (state (W.meaning self.old.wire) self.old.t self.old.closed row.now)) }
+        ensures answer { let s = state (W.meaning self.old.wire) self.old.t self.old.closed row.now in result ≡ answer (telling q lost s) }
+        ensures state { let s = state (W.meaning self.old.wire) self.old.t self.old.closed row.now in state (W.meaning self.new.wire) self.new.t self.new.closed row.now ≡ or_kept s (telling q lost s) }
     {
         self.check_telling(row, q, lost)?;
         self.wire.fall(q, lost)

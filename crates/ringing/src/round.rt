@@ -1,5 +1,5 @@
 // A round of a ringing.
-ghost use Rattle.std.specs.Prelude.{◌≡◌, length, replicate};
+ghost use Rattle.std.specs.Prelude.{◌≡◌, length, replicate, OnErr};
 
 use super::exchange::exchange_frames;
 use super::guard::LineGuard;
@@ -17,18 +17,20 @@ impl<W: Wire> Ringing<W> {
     // Plays a round: every box that is up posts its frame, every box that is not falling hears the others and closes, and those that
     // are falling are then down. It needs line bytes for the longest frame; on every way out they are all zero.
     pub fn round<K: Kind>(&mut self, row: &mut [Place<K>], line: &mut [u8]) -> Result<(), Refusal>
-        ensures answer { result ≡ answer (playing K.leads K.image (length line.old) (state (W.meaning self.old.wire) self.old.t self.old.closed row.old)) }
-        ensures state { state (W.meaning self.new.wire) self.new.t self.new.closed row.new ≡ or_kept (state (W.meaning self.old.wire) self.old.t self.old.closed row.old) (playing K.leads K.image (length line.old) (state (W.meaning self.old.wire) self.old.t self.old.closed row.old)) }
+        ensures answer { let s = state (W.meaning self.old.wire) self.old.t self.old.closed row.old in result ≡ answer (playing K.leads K.image (length line.old) s) }
+        ensures state { let s = state (W.meaning self.old.wire) self.old.t self.old.closed row.old in state (W.meaning self.new.wire) self.new.t self.new.closed row.new ≡ or_kept s (playing K.leads K.image (length line.old) s) }
+        ensures refused { OnErr result (row.new ≡ row.old) }
         ensures line { line.new ≡ replicate (length line.old) 0 }
     {
         let guard = LineGuard { bytes: line };
         self.play(row, guard.bytes)
     }
 
-    // The same, with line bytes that are left as they come.
+    // The same, whatever the line bytes hold afterwards.
     fn play<K: Kind>(&mut self, row: &mut [Place<K>], line: &mut [u8]) -> Result<(), Refusal>
-        ensures answer { result ≡ answer (playing K.leads K.image (length line.old) (state (W.meaning self.old.wire) self.old.t self.old.closed row.old)) }
-        ensures state { state (W.meaning self.new.wire) self.new.t self.new.closed row.new ≡ or_kept (state (W.meaning self.old.wire) self.old.t self.old.closed row.old) (playing K.leads K.image (length line.old) (state (W.meaning self.old.wire) self.old.t self.old.closed row.old)) }
+        ensures answer { let s = state (W.meaning self.old.wire) self.old.t self.old.closed row.old in result ≡ answer (playing K.leads K.image (length line.old) s) }
+        ensures state { let s = state (W.meaning self.old.wire) self.old.t self.old.closed row.old in state (W.meaning self.new.wire) self.new.t self.new.closed row.new ≡ or_kept s (playing K.leads K.image (length line.old) s) }
+        ensures refused { OnErr result (row.new ≡ row.old) }
         ensures line { length line.new ≡ length line.old }
     {
         let _ = rows_stand::<K>();

@@ -12,7 +12,7 @@ use Rattle.boxes.specs.declared.states.Resting.{Resting}
 use Rattle.rows.specs.declared.place.Place.{Place}
 use Rattle.rows.specs.declared.place.Place.TheVariants as place
 use Rattle.rows.specs.Places.{Stand, at_rest, shown}
-use Rattle.rows.specs.Calls.{State, gone, misplaced, bad_row}
+use Rattle.rows.specs.Calls.{State, gone_count, misplaced, bad_row}
 use Rattle.rows.proofs.Numbered.{none_numbered}
 
 -- what is at rest at a place is a box at rest
@@ -37,7 +37,7 @@ module _ {K : Type 0} (s : State K) (row : List (Place K)) (is : s.row ≡ map s
   unfolding bad_row
   places = grind (arith, nat_tests)
 
-  pub few_gone : gone s.wire ≤ s.t
+  pub few_gone : gone_count s.wire ≤ s.t
   unfolding bad_row
   few_gone = grind (arith, nat_tests)
 

@@ -36,12 +36,12 @@ pub record State (K : Type 0) : Type 0 where
 abbrev pub is_gone : Meaning → ℕ → Bool
 is_gone m q = not (member m.up q) || is_some (m.lost q)
 
-abbrev pub gone : Meaning → ℕ
-gone m = count (is_gone m) m.n
+abbrev pub gone_count : Meaning → ℕ
+gone_count m = count (is_gone m) m.n
 
 -- ---- making one
 
--- that the wire is none for a new ringing of n boxes: it is of another number, or a box is not up or falling
+-- that the wire is none for a new ringing of n boxes: it joins another number, or a box is not up, or is falling
 abbrev pub bad_wire : ℕ → Meaning → Bool
 bad_wire n m = not (m.n == n) || any (is_gone m) n
 
@@ -66,21 +66,22 @@ hears_on m p q = member m.up q && not (is_lost m p q)
 module _ {K : Type 0} where
   -- ---- which row is refused
 
-  -- that the box at rest is none that this ringing has at place p: it is of another number, n, t or closed rounds, or misses a box that is up
+  -- that the box at rest is none that this ringing has at place p: it is of another number, n, t or closed rounds, or misses a box that is up.
+  -- It cannot lack what every box keeps: that stands in its type
   abbrev pub is_other : State K → ℕ → Held K → Bool
   is_other s p b =
       not (b.number.0 == p && b.n == s.wire.n && b.t == s.t && b.closed == s.closed) || any (λ q. member b.missing q && member s.wire.up q) 32
 
   -- that this may not stand at place p: a box that is down stands there just if the wire has it not up; one that rings does so in the last
-  -- closed round
+  -- closed round, and in none before there is one
   abbrev pub misplaced : State K → ℕ → Stand K → Bool
   misplaced s p (at_rest b) = not (member s.wire.up p) || is_other s p b
   misplaced s p (down r) = member s.wire.up p
-  misplaced s p (rung x) = not (member s.wire.up p) || not (x.round.0 == s.closed)
+  misplaced s p (rung x) = not (member s.wire.up p) || not (x.round.0 == s.closed) || s.closed == 0
 
   -- that the row is none of this ringing: it has not n places, something is misplaced, or over t boxes are down or falling
   unfoldable pub bad_row : State K → Bool
-  bad_row s = not (length s.row == s.wire.n) || any_numbered (misplaced s) s.row || nat_lt s.t (gone s.wire)
+  bad_row s = not (length s.row == s.wire.n) || any_numbered (misplaced s) s.row || nat_lt s.t (gone_count s.wire)
 
   abbrev pub has_rung : Stand K → Bool
   has_rung (at_rest b) = false
@@ -105,7 +106,7 @@ module _ {K : Type 0} where
   telling q lost s =
       and_then (λ e. e) (going_on s) (λ _.
       and_then (λ e. e) (falling q.0 lost s.wire) (λ m.
-      unless ((nat_le s.t (gone s.wire), refusal.Spent) ∷ []) (record s { wire = m })))
+      unless ((nat_le s.t (gone_count s.wire), refusal.Spent) ∷ []) (record s { wire = m })))
 
   -- ---- a round
 

@@ -1,6 +1,6 @@
 -- Which calls are accepted, and what is told, by the history. Assumes nothing.
-use Rattle.std.proofs.Common.{◌≡◌, ℕ, zero, suc, ◌+◌, ◌<◌, ◌≤◌, Bool, true, false, cond, not, ◌&&◌, ◌||◌, leb, ltb, ◌⊎◌, List, [], ◌∷◌, map, is_some, Some, None, Ok, Err, Option, option_map, Result, is_ok, sym, refl, ap, ◌∙◌, inl, inr, arith}
-use Rattle.std.specs.List.{list_any, slice_get, range_with_len}
+use Rattle.std.proofs.Common.{◌≡◌, ℕ, suc, ◌<◌, Bool, true, false, cond, not, ◌&&◌, leb, ltb, ◌⊎◌, List, [], ◌∷◌, is_some, Some, None, Option, is_ok, sym, refl, ap, ◌∙◌, inl, inr, arith}
+use Rattle.std.specs.List.{slice_get}
 use Rattle.std.proofs.lemmas.Bool.{cases_Bool, both_ways}
 use Rattle.std.proofs.lemmas.Option.{slice_get_within}
 use Rattle.std.proofs.lemmas.Bool.Decides.{nat_tests}
@@ -8,21 +8,18 @@ use Rattle.numbers.specs.declared.refusal.Refusal.TheVariants.{Stranger}
 use Rattle.numbers.specs.Refusals.{unless}
 use Rattle.sets.specs.declared.labels.BoxNumber.{BoxNumber}
 use Rattle.sets.specs.declared.set.BoxSet.{BoxSet}
-use Rattle.sets.specs.Companies.{company}
-use Rattle.sets.specs.Tests.{any, count}
-use Rattle.sets.specs.Masks.{member}
 use Rattle.sets.proofs.Counts.{any_none, any_has}
 use Rattle.frames.specs.Frames.{longest_frame}
 use Rattle.wire.specs.Meaning.{falling}
 use Rattle.rule.specs.Falls.{fell_before, closes}
 use Rattle.rule.specs.Histories.{History, Allowed}
 use Rattle.rule.specs.Values as rule
-use Rattle.rows.specs.Places.{Stand, rung, standing_of}
-use Rattle.rows.specs.Calls.{State, is_gone, gone, bad_row, has_rung, over, telling, playing, asking}
+use Rattle.rows.specs.Places.{Stand, standing_of}
+use Rattle.rows.specs.Calls.{State, is_gone, bad_row, has_rung, over, telling, playing, asking}
 use Rattle.rows.proofs.Numbered.{list_none, none_list}
 use Rattle.runs.specs.Runs.{stand_by, row_by, wire_by, state_by}
 use Rattle.runs.specs.Theorems.{somebody_rings, may_fall}
-use Rattle.runs.proofs.Pictured.{at_place, row_length, n_is, up_is, lost_is, gone_is, gone_count, row_good, fallen_stands, resting_stands, rings_stands}
+use Rattle.runs.proofs.Pictured.{at_place, row_length, gone_is, gone_counted, row_good, fallen_stands, resting_stands, rings_stands}
 
 module _ {K : Type 0} (leads : K → K → Bool) (image : K → List ℕ) (unopened : ℕ → Option (List ℕ)) (h : History K) (allowed : Allowed h)
     (due : (q : ℕ) → is_some (h.falls q) ≡ fell_before (h.falls q) (suc (suc h.closed))) where
@@ -77,7 +74,7 @@ module _ {K : Type 0} (leads : K → K → Bool) (image : K → List ℕ) (unope
   falls_are q lost =
       let g = good in
       let o = over_is in
-      let c = gone_count leads h allowed.size image unopened due in
+      let c = gone_counted leads h allowed.size image unopened due in
       let d = due q.0 in
       let fell : q.0 < h.n → is_gone s.wire q.0 ≡ is_some (h.falls q.0) = λ l. gone_is leads h allowed.size image unopened q.0 l ∙ sym d in
       grind (arith, nat_tests)

@@ -17,9 +17,9 @@ use Rattle.rule.specs.Boxes.{outcome_of}
 use Rattle.rule.specs.Theorems.{QuietBefore, OnlyPast, FallToCome}
 use Rattle.rule.proofs.Rounds.{fell_closes, fell_next}
 use Rattle.rows.specs.Places.{down, stand_of}
-use Rattle.rows.specs.Calls.{State, gone}
+use Rattle.rows.specs.Calls.{State, gone_count}
 use Rattle.runs.specs.Runs.{lost_in, stood, stand_by, row_by, posted_by, wire_by, state_by}
-use Rattle.runs.proofs.Pictured.{lost_some, up_is, lost_is, gone_count}
+use Rattle.runs.proofs.Pictured.{lost_some, up_is, lost_is, gone_counted}
 use Rattle.runs.proofs.Going.{Going}
 use Rattle.runs.proofs.Same.{closes_same, held_same, rings_same, outcome_same}
 
@@ -42,7 +42,7 @@ module _ {K : Type 0} (leads : K → K → Bool) (image : K → List ℕ) (unope
   abbrev then : History K
   then = record h { falls = falls }
 
-  module _ (placed : q < h.n) (up : member s.wire.up q ≡ true) (unfallen : s.wire.lost q ≡ None) (spare : gone s.wire < h.t) where
+  module _ (placed : q < h.n) (up : member s.wire.up q ≡ true) (unfallen : s.wire.lost q ≡ None) (spare : gone_count s.wire < h.t) where
     none : h.falls q ≡ None
     none =
         let u = up_is leads h allowed.size image unopened q in
@@ -128,5 +128,5 @@ module _ {K : Type 0} (leads : K → K → Bool) (image : K → List ℕ) (unope
         few =
             let e = count_ext (λ k. is_some (falls k)) (λ k. is_some (h.falls k) || eqb k q) h.n (λ k l. more (eqb k q) (h.falls k)) in
             let m = count_more (λ k. is_some (h.falls k)) h.n q placed (ap is_some none) in
-            let g = gone_count leads h allowed.size image unopened due in
+            let g = gone_counted leads h allowed.size image unopened due in
             omega arith

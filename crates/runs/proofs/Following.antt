@@ -8,7 +8,7 @@ use Rattle.numbers.specs.declared.refusal.Refusal.{Refusal}
 use Rattle.wire.specs.Meaning.{fallen, falling}
 use Rattle.rule.specs.Histories.{History}
 use Rattle.rule.specs.Theorems.{BoxBegins, BoxFollows, OnlyPast, FallToCome}
-use Rattle.rows.specs.Calls.{State, gone, bad_row, over, telling, playing, played, or_kept, asking}
+use Rattle.rows.specs.Calls.{State, gone_count, bad_row, over, telling, playing, played, or_kept, asking}
 use Rattle.runs.specs.Runs.{Call, fall, round, ask, first_history, noted, is_accepted, after, state_after, history_after, state_by}
 use Rattle.runs.specs.Theorems.{Follows, CallsFollow}
 use Rattle.runs.proofs.Pictured.{row_good, n_is}
@@ -23,7 +23,7 @@ record Told {K : Type 0} (q : ℕ) (lost : BoxSet) (s then : State K) : Type 0 w
   placed : q < s.wire.n
   up : member s.wire.up q ≡ true
   unfallen : is_some (s.wire.lost q) ≡ false
-  spare : gone s.wire < s.t
+  spare : gone_count s.wire < s.t
   is : then ≡ record s { wire = fallen q lost s.wire }
 
 told : {K : Type 0} (q : BoxNumber) (lost : BoxSet) (s then : State K) → telling q lost s ≡ Ok then → Told q.0 lost s then

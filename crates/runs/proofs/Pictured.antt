@@ -19,7 +19,7 @@ use Rattle.rule.specs.Values.{missed}
 use Rattle.rule.specs.Boxes.{held_after, outcome_of}
 use Rattle.rule.proofs.Rounds.{closing_heard, fell_closes, fell_next}
 use Rattle.rows.specs.Places.{Stand, at_rest, down, stand_of}
-use Rattle.rows.specs.Calls.{State, is_gone, gone, is_other, misplaced, bad_row}
+use Rattle.rows.specs.Calls.{State, is_gone, gone_count, is_other, misplaced, bad_row}
 use Rattle.rows.proofs.Numbered.{get-range, numbered_none}
 use Rattle.runs.specs.Runs.{lost_in, stood, stand_by, row_by, wire_by, state_by}
 
@@ -128,6 +128,12 @@ module _ {K : Type 0} (leads : K → K → Bool) (h : History K) (size : company
         let none = none_any (λ q. member (held_after h leads p h.closed).missing q && member s.wire.up q) 32 (λ q _. misses_none p q) in
         grind (arith, nat_tests)
 
+    -- no box rings before the first round
+    rung_late : (p r : ℕ) → rule.rings h p r ≡ true → eqb r 0 ≡ false
+    unfolding rule.best_horizon rule.smallest
+    rung_late p zero e = grind (arith, nat_tests)
+    rung_late p (suc r) e = grind (arith, nat_tests)
+
     -- what stands at a place may stand there
     placed : (p : ℕ) → p < h.n → misplaced s p (stand_by leads h p) ≡ false
     placed p l = by (cases_Bool (closes h.falls p h.closed)) (cases_Bool (rule.rings h p h.closed))
@@ -137,13 +143,13 @@ module _ {K : Type 0} (leads : K → K → Bool) (h : History K) (size : company
           where
             fell : (f : Fall) × (h.falls p ≡ Some f) × (f.round.0 ≤ h.closed) × (stand_by leads h p ≡ down f.round) → misplaced s p (stand_by leads h p) ≡ false
             fell (f, e, k, is) = ap (misplaced s p) is ∙ (let u = up_is p in grind arith)
-        by (inl c) (inl r) = ap (misplaced s p) (rings_stands p c r) ∙ (let u = up_is p in grind (arith, nat_tests))
+        by (inl c) (inl r) = ap (misplaced s p) (rings_stands p c r) ∙ (let u = up_is p in let z = rung_late p h.closed r in grind (arith, nat_tests))
         by (inl c) (inr r) = ap (misplaced s p) (resting_stands p c r) ∙ (let u = up_is p in let o = own_place p in grind (arith, nat_tests))
 
     module _ (due : (q : ℕ) → is_some (h.falls q) ≡ fell_before (h.falls q) (suc (suc h.closed))) where
-      pub gone_count : gone s.wire ≡ count (λ q. is_some (h.falls q)) h.n
+      pub gone_counted : gone_count s.wire ≡ count (λ q. is_some (h.falls q)) h.n
       unfolding wire_by
-      gone_count = count_ext (is_gone s.wire) (λ q. is_some (h.falls q)) h.n (λ q l. gone_is q l ∙ sym (due q))
+      gone_counted = count_ext (is_gone s.wire) (λ q. is_some (h.falls q)) h.n (λ q l. gone_is q l ∙ sym (due q))
 
       -- the row is not refused
       pub row_good : count (λ q. is_some (h.falls q)) h.n ≤ h.t → bad_row s ≡ false
@@ -151,7 +157,7 @@ module _ {K : Type 0} (leads : K → K → Bool) (h : History K) (size : company
       row_good most =
           let len = row_length in
           let n = n_is in
-          let g = gone_count in
+          let g = gone_counted in
           let all = numbered_none (misplaced s) s.row (λ p x at. at_is p x at) in
           grind (arith, nat_tests)
         where

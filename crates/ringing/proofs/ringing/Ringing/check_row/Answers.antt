@@ -7,7 +7,7 @@ use Rattle.rows.specs.declared.place.Place.{Place}
 use Rattle.rows.specs.Places.{shown}
 use Rattle.rows.specs.Calls.{misplaced}
 use Rattle.ringing.specs.States.{state}
-use Rattle.ringing.proofs.Rows.{not_true, not_false, gone_count, short_bad, gone_bad, place_bad, row_good}
+use Rattle.ringing.proofs.Rows.{not_true, not_false, gone_counted, short_bad, gone_bad, place_bad, row_good}
 use Rattle.ringing.proofs.ringing.Ringing.check_row.Goals as goal
 use Rattle.ringing.proofs.ringing.Ringing.check_row.Goals.{then-row-n-via-then-row-n, then-row-n-via-else-row-n+then-count-self}
 
@@ -18,7 +18,7 @@ returns-then-row-n g c =
     let f = g.met.W.Wire.formed r.wire in
     ap (λ b. cond b (Err Row) (Ok tt)) (sym (elim c.then-row-n.branch [
       | then-row-n-via-then-row-n w ↦ short_bad m r.t r.closed c.args.row.now (grind (arith, nat_tests, w.if-row-n.true, c.n.ensures))
-      | then-row-n-via-else-row-n+then-count-self w ↦ gone_bad m r.t r.closed c.args.row.now (let k = gone_count m f w.gone.result w.gone.ensures in grind (arith, nat_tests, w.count.ensures, w.if-count-self.true))
+      | then-row-n-via-else-row-n+then-count-self w ↦ gone_bad m r.t r.closed c.args.row.now (let k = gone_counted m f w.gone.result w.gone.ensures in grind (arith, nat_tests, w.count.ensures, w.if-count-self.true))
     ]))
 
 pub returns-then-not-may_stand : goal.returns-then-not-may_stand
@@ -44,5 +44,5 @@ returns g c =
     let m = g.W.Wire.meaning c.args.self.now.wire in
     let r = c.args.self.now in
     let f = g.met.W.Wire.formed r.wire in
-    let k = gone_count m f c.gone.result c.gone.ensures in
+    let k = gone_counted m f c.gone.result c.gone.ensures in
     ap (λ b. cond b (Err Row) (Ok tt)) (sym (row_good m r.t r.closed c.args.row.now (grind (arith, nat_tests, c.n.ensures)) (grind (arith, nat_tests, c.count.ensures)) (λ p x at. c.loop-p.invariant p x (let l = slice_get_within c.args.row.now p x at in omega arith) at)))

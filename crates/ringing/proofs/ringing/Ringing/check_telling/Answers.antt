@@ -1,6 +1,6 @@
 use Rattle.std.proofs.Common.{sym, ◌∙◌, arith}
 use Rattle.ringing.specs.States.{state}
-use Rattle.ringing.proofs.Rows.{gone_count, over_is}
+use Rattle.ringing.proofs.Rows.{gone_counted, over_is}
 use Rattle.ringing.proofs.Falls.{is_checked, not_checked, tell_bad, tell_over, answer_refused, answer_spent, answer_ok}
 use Rattle.ringing.proofs.ringing.Ringing.check_telling.Goals as goal
 
@@ -35,7 +35,7 @@ returns-then-count-self g c =
     let m = g.W.Wire.meaning r.wire in
     let s = state m r.t r.closed c.args.row.now in
     let good = is_checked s c.in_ok-check_row.ensures in
-    let k = gone_count m (g.met.W.Wire.formed r.wire) c.gone.result c.gone.ensures in
+    let k = gone_counted m (g.met.W.Wire.formed r.wire) c.gone.result c.gone.ensures in
     sym (answer_spent c.args.q c.args.lost s good (over_is c.args.row.now ∙ sym c.is_over.ensures ∙ c.if-is_over.false) c.check_fall.result c.check_fall.ensures c.in_ok-check_fall.was (omega (arith, k, c.count.ensures, c.if-count-self.true)))
 
 pub returns : goal.returns
@@ -44,5 +44,5 @@ returns g c =
     let m = g.W.Wire.meaning r.wire in
     let s = state m r.t r.closed c.args.row.now in
     let good = is_checked s c.in_ok-check_row.ensures in
-    let k = gone_count m (g.met.W.Wire.formed r.wire) c.gone.result c.gone.ensures in
+    let k = gone_counted m (g.met.W.Wire.formed r.wire) c.gone.result c.gone.ensures in
     sym (answer_ok c.args.q c.args.lost s good (over_is c.args.row.now ∙ sym c.is_over.ensures ∙ c.if-is_over.false) c.check_fall.result c.check_fall.ensures c.in_ok-check_fall.was (omega (arith, k, c.count.ensures, c.if-count-self.false)))
