@@ -65,7 +65,7 @@ module _ {K : Type 0} (f : ℕ → Stand K → Stand K) (old : List (Stand K)) w
           let none : slice_get (map shown row) j ≡ None = slice_get_past (map shown row) j (let s = length-map row shown in grind (arith, nat_tests)) in
           none ∙ ap (option_map (f j)) (sym none ∙ above j (grind (arith, nat_tests)))
 
--- what was read at a place that is as it was
-pub unread : {K : Type 0} (old : List (Stand K)) (row : List (Place K)) (i : ℕ) (x : Place K) → i < length row → x ≡ get_or row i x → slice_get (map shown row) i ≡ slice_get old i
-    → slice_get old i ≡ Some (shown (get_or row i x))
-unread old row i x l e same = sym same ∙ slice_get-map shown row i ∙ ap (option_map shown) (slice_get_read row (length row) i x refl l e) ∙ ap (λ y. Some (shown y)) e
+  -- what was read at the next place is what stood there
+  pub read_next : (row : List (Place K)) (i : ℕ) (x : Place K) → i < length row → x ≡ get_or row i x → Done i row → slice_get old i ≡ Some (shown (get_or row i x))
+  read_next row i x l e (below, above) =
+      sym (above i (omega arith)) ∙ slice_get-map shown row i ∙ ap (option_map shown) (slice_get_read row (length row) i x refl l e) ∙ ap (λ y. Some (shown y)) e

@@ -14,10 +14,13 @@ use Rattle.frames.specs.Faults.{map_fault}
 use Rattle.frames.specs.Frames.{frame_bytes}
 use Rattle.boxes.specs.declared.states.Held.{Held}
 use Rattle.boxes.specs.declared.states.Notes.{Notes}
+use Rattle.boxes.specs.declared.fault.BoxFault.{BoxFault}
+use Rattle.boxes.specs.declared.states.Closed.{Closed}
+use Rattle.boxes.specs.declared.states.Listening.{Listening}
 use Rattle.boxes.specs.declared.states.Resting.{Resting}
 use Rattle.boxes.specs.Boxes.{frame_of}
 use Rattle.boxes.specs.Faults.{refusal_of}
-use Rattle.boxes.specs.Rounds.{refused, open_notes, noted, closing}
+use Rattle.boxes.specs.Rounds.{refused, open_notes, noted, closing, outcome}
 use Rattle.boxes.specs.Rule.{Heard, ruled_outcome}
 use Rattle.boxes.proofs.Shown.{Shows, alone, plus, opens, goes_on, shown_closes}
 use Rattle.wire.specs.Meaning.{Meaning, WellFormed, is_in, is_lost, heard}
@@ -160,7 +163,7 @@ module _ {K : Type 0} (leads : K → K → Bool) (total : (x y : K) → (leads x
     tells_more x e = (hears_more.0, own_placed x e, ap (λ y. told_notes leads size named y.held m (heard w y.held.number.0 q)) e ∙ hears_more.1, hears_more.2)
 
   -- when all were heard it closes as the rule says
-  pub closes_so : (m : Notes K) → Shows leads b m (below w.n) → closing b.held m ≡ Ok (ruled_outcome leads b.held (heard_by s p))
+  closes_so : (m : Notes K) → Shows leads b m (below w.n) → closing b.held m ≡ Ok (ruled_outcome leads b.held (heard_by s p))
   closes_so m shows =
       shown_closes leads total transitive antisymmetric b m (heard_by s p) (subst (Shows leads b m) (λ j i. (ap (λ x. below x.n i) (sym r.wire) ∙ all i (cases_Bool (ltb i s.wire.n))) j) shows)
       ∙ ap (map_fault (refused b.held)) (goes.closes p b.held at)
@@ -173,3 +176,9 @@ module _ {K : Type 0} (leads : K → K → Bool) (total : (x y : K) → (leads x
           let t : (ltb i s.wire.n || eqb i p) ≡ false = grind (arith, nat_tests) in
           let u : hears_on s.wire p i ≡ false = grind (arith, nat_tests) in
           ap (λ t. cond t (heard_by s p i) None) t ∙ ap (λ t. cond t (sent s i) None) (sym u)
+
+  -- so does a listening box that is known to be it
+  pub closed_so : (l : Listening K) (q : ℕ) (a : Result (Closed K) (Listening K × BoxFault)) → l.resting ≡ b → q ≡ w.n → Shows leads b l.notes (below q)
+      → result_map_both outcome (λ e. e) a ≡ map_fault (λ e. (l, e)) (closing l.resting.held l.notes) → result_map_both outcome (λ e. e) a ≡ Ok (ruled_outcome leads b.held (heard_by s p))
+  closed_so l q a same all shows closes =
+      closes ∙ ap (map_fault (λ e. (l, e))) (ap (λ x. closing x.held l.notes) same ∙ closes_so l.notes (subst (λ i. Shows leads b l.notes (below i)) all shows))

@@ -5,10 +5,11 @@ use Rattle.numbers.specs.declared.refusal.Refusal.{Refusal}
 use Rattle.numbers.specs.declared.refusal.Refusal.TheVariants as refusal
 use Rattle.sets.specs.Companies.{company}
 use Rattle.frames.specs.Frames.{longest_frame}
-use Rattle.wire.specs.Meaning.{Meaning, opened}
+use Rattle.wire.specs.Meaning.{Meaning, WellFormed, opened}
 use Rattle.rows.specs.Calls.{State, bad_row, over, carried, played, playing, answer}
-use Rattle.rows.specs.Theorems.{Goes}
-use Rattle.ringing.specs.States.{InRound}
+use Rattle.rows.specs.declared.place.Place.{Place}
+use Rattle.rows.specs.Theorems.{Goes, RoundGoes}
+use Rattle.ringing.specs.States.{state, InRound}
 
 module _ {K : Type 0} (leads : K → K → Bool) (image : K → List ℕ) (room : ℕ) (s : State K) where
   pub play_bad : bad_row s ≡ true → answer (playing leads image room s) ≡ Err refusal.Row
@@ -50,6 +51,16 @@ module _ {K : Type 0} (leads : K → K → Bool) (size : ℕ) (named : List ℕ 
     goes = record { places = goes.places; ahead = goes.ahead; own = goes.own; posts = goes.posts; fetches = goes.fetches; hears = goes.hears; closes = goes.closes };
     carries = λ q. refl;
   }
+
+pub state_same : {K : Type 0} {s u : State K} → s.wire ≡ u.wire → s.t ≡ u.t → s.closed ≡ u.closed → s.row ≡ u.row → s ≡ u
+state_same a b c d = λ j. record { wire = a j; t = b j; closed = c j; row = d j }
+
+-- what a round may rely on, where the checks let it be played
+pub goes_on : {K : Type 0} (leads : K → K → Bool) (size : ℕ) (named : List ℕ → Option K) (image : K → List ℕ) → RoundGoes leads size named image
+    → (m : Meaning) (t closed : ℕ) (row : List (Place K)) (room : ℕ) → WellFormed m → company m.n t ≡ true → Ok tt ≡ answer (playing leads image room (state m t closed row))
+    → Goes leads size named image (state m t closed row)
+goes_on leads size named image law m t closed row room formed size_ok ok =
+    let p = played_ok leads image room (state m t closed row) ok in law (state m t closed row) row refl formed size_ok p.0 p.1
 
 -- there are few rounds
 pub rounds_fit : (n t closed : ℕ) → company n t ≡ true → closed ≤ t → closed + 1 ≤ 32

@@ -1,8 +1,7 @@
 // What is checked before a call does anything.
-ghost use Rattle.std.specs.Prelude.{◌≡◌, false, not, ◌||◌, ◌&&◌, nat_lt, [], map};
+ghost use Rattle.std.specs.Prelude.{◌≡◌, not, ◌||◌, ◌&&◌, nat_lt, []};
 ghost use Rattle.std.specs.List.{list_any};
-ghost use Rattle.sets.specs.Masks.{set_of};
-ghost use Rattle.sets.specs.Masks.{member};
+ghost use Rattle.sets.specs.Masks.{member, set_of};
 ghost use Rattle.wire.specs.Meaning.{falling, answer};
 ghost use Rattle.rows.specs.Places.{shown};
 ghost use Rattle.rows.specs.Calls.{has_rung, is_gone};

@@ -1,8 +1,7 @@
 // What the boxes exchange in a round: each that is up posts its frame, and each that is not falling hears the others and closes.
-ghost use Rattle.std.specs.Prelude.{◌≡◌, ℕ, ◌<◌, ◌≤◌, ◌==◌, List, length, map, true, false, Some, None, Ok, Option, option_map};
+ghost use Rattle.std.specs.Prelude.{◌≡◌, ℕ, ◌<◌, ◌≤◌, length, map, Some, None, Ok};
 ghost use Rattle.std.specs.List.{slice_get};
 ghost use Rattle.std.specs.Result.{result_map_both, result_unwrap_or};
-ghost use Rattle.frames.specs.declared.frame.Frame.{Frame};
 ghost use Rattle.frames.specs.Frames.{frame_bytes};
 ghost use Rattle.boxes.specs.Boxes.{frame_of};
 ghost use Rattle.boxes.specs.Faults.{refusal_of};

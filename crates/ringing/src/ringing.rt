@@ -22,10 +22,9 @@ pub struct Ringing<W: Wire> {
 }
 
 impl<W: Wire> Ringing<W> {
-    ghost use Rattle.std.specs.Prelude.{List, map, length, IfOk, OnErr};
-    ghost use Rattle.std.specs.Result.{result_map_both, result_unwrap_or};
+    ghost use Rattle.std.specs.Prelude.{List, length, IfOk, OnErr};
+    ghost use Rattle.std.specs.Result.{result_map_both};
     ghost use Rattle.frames.specs.Faults.{map_fault};
-    ghost use Rattle.rows.specs.Places.{shown};
     ghost use Rattle.rows.specs.Calls.{making, telling, asking, answer, or_kept};
     ghost use Rattle.runs.specs.Runs.{Call, first_history, state_after, history_after};
     ghost use Rattle.runs.specs.Theorems.{Follows};

@@ -2,3 +2,4 @@ pub mod Numbered
 pub mod Checked
 pub mod Rounds
 mod Places
+mod Means

@@ -1,5 +1,5 @@
 // A row has a place for each box of a company. What stands at a place, and what is told of it.
-ghost use Rattle.std.specs.Prelude.{◌≡◌, codes};
+ghost use Rattle.std.specs.Prelude.{◌≡◌};
 ghost use Rattle.boxes.specs.Rounds.{outcome};
 ghost use Rattle.rows.specs.Places.{shown, stand_of, standing_of, standing_word, round_of, proposal_of};
 

@@ -14,12 +14,17 @@ use Rattle.wire.specs.Meaning.{falling}
 use Rattle.rule.specs.Falls.{fell_before, closes}
 use Rattle.rule.specs.Histories.{History, Allowed}
 use Rattle.rule.specs.Values as rule
-use Rattle.rows.specs.Places.{Stand, standing_of}
+use Rattle.rows.specs.declared.place.Blow.TheVariants as blow
+use Rattle.rows.specs.declared.place.Rung.{Rung}
+use Rattle.rows.specs.Places.{Stand, standing_of, rung}
 use Rattle.rows.specs.Calls.{State, is_gone, bad_row, has_rung, over, telling, playing, asking}
 use Rattle.rows.proofs.Numbered.{list_none, none_list}
 use Rattle.runs.specs.Runs.{stand_by, row_by, wire_by, state_by}
 use Rattle.runs.specs.Theorems.{somebody_rings, may_fall}
 use Rattle.runs.proofs.Pictured.{at_place, row_length, gone_is, gone_counted, row_good, fallen_stands, resting_stands, rings_stands}
+
+rung_same : {K : Type 0} (x y : Rung K) → rung x ≡ rung y → x ≡ y
+rung_same x y e = cc
 
 module _ {K : Type 0} (leads : K → K → Bool) (image : K → List ℕ) (unopened : ℕ → Option (List ℕ)) (h : History K) (allowed : Allowed h)
     (due : (q : ℕ) → is_some (h.falls q) ≡ fell_before (h.falls q) (suc (suc h.closed))) where
@@ -41,6 +46,26 @@ module _ {K : Type 0} (leads : K → K → Bool) (image : K → List ℕ) (unope
   -- what stands at a place of the company
   stands : (p : ℕ) → p < h.n → slice_get (row_by leads h) p ≡ Some (stand_by leads h p)
   stands p l = at_place leads h allowed.size p ∙ ap (λ t. cond t (Some (stand_by leads h p)) None) (let k : ltb p h.n ≡ true = grind (arith, nat_tests) in k)
+
+  -- who rings does so in the last closed round on its estimate
+  pub rings_are : (p : ℕ) (x : Rung K) → slice_get s.row p ≡ Some (rung x) → (x.round.0 ≡ h.closed) × (x.proposal ≡ rule.estimate h leads p h.closed) × (x.blow ≡ blow.Rings)
+  rings_are p x at = by (cases_Bool (closes h.falls p h.closed)) (cases_Bool (rule.rings h p h.closed))
+    where
+      here : stand_by leads h p ≡ rung x
+      here =
+          let l = slice_get_within (row_by leads h) p (rung x) at in
+          let len = row_length leads h allowed.size in
+          let e = stands p (omega arith) in
+          cc
+
+      by : (closes h.falls p h.closed ≡ true) ⊎ (closes h.falls p h.closed ≡ false) → (rule.rings h p h.closed ≡ true) ⊎ (rule.rings h p h.closed ≡ false)
+          → (x.round.0 ≡ h.closed) × (x.proposal ≡ rule.estimate h leads p h.closed) × (x.blow ≡ blow.Rings)
+      by (inr c) r = absurd (let f = fallen_stands leads h allowed.size p c in let e = f.3 in grind (arith, here))
+      by (inl c) (inr r) = absurd (let e = resting_stands leads h allowed.size image unopened p c r in grind (arith, here))
+      by (inl c) (inl r) =
+          let e : rung (record { round = record { 0 = h.closed }; proposal = rule.estimate h leads p h.closed; blow = blow.Rings }) ≡ rung x = sym (rings_stands leads h allowed.size image unopened p c r) ∙ here in
+          let same = rung_same _ x e in
+          (ap (λ y. y.round.0) (sym same), ap (λ y. y.proposal) (sym same), ap (λ y. y.blow) (sym same))
 
   over_is : over s ≡ somebody_rings h
   over_is = by (somebody_rings h) refl

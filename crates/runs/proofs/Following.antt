@@ -1,5 +1,6 @@
 -- Each call, accepted or refused, keeps a ringing with its row to the history. Assumes nothing.
 use Rattle.std.proofs.Common.{◌≡◌, ℕ, ◌<◌, Bool, true, false, cond, List, [], ◌∷◌, is_some, Ok, Err, Option, Result, is_ok, sym, refl, ap, ◌∙◌, subst, arith}
+use Rattle.std.specs.List.{slice_get}
 use Rattle.std.proofs.lemmas.Bool.Decides.{nat_tests}
 use Rattle.sets.specs.declared.labels.BoxNumber.{BoxNumber}
 use Rattle.sets.specs.declared.set.BoxSet.{BoxSet}
@@ -12,7 +13,7 @@ use Rattle.rows.specs.Calls.{State, gone_count, bad_row, over, telling, playing,
 use Rattle.runs.specs.Runs.{Call, fall, round, ask, first_history, noted, is_accepted, after, state_after, history_after, state_by}
 use Rattle.runs.specs.Theorems.{Follows, CallsFollow}
 use Rattle.runs.proofs.Pictured.{row_good, n_is}
-use Rattle.runs.proofs.Accepting.{rounds_are, falls_are, told_is}
+use Rattle.runs.proofs.Accepting.{rounds_are, falls_are, rings_are, told_is}
 use Rattle.runs.proofs.Going.{Going}
 use Rattle.runs.proofs.Fallen.{none_of, fall_kept}
 use Rattle.runs.proofs.Played.{round_kept}
@@ -89,6 +90,7 @@ module _ {K : Type 0} (leads : K → K → Bool) (image : K → List ℕ) (unope
       good = ap bad_row g.is ∙ row_good leads h g.allowed.size image unopened g.due g.allowed.few;
       rounds = λ room. ap (λ x. is_ok (playing leads image room x)) g.is ∙ rounds_are leads image unopened h g.allowed g.due room;
       falls = λ q lost. ap (λ x. is_ok (telling q lost x)) g.is ∙ falls_are leads image unopened h g.allowed g.due q lost;
+      rings = λ p x at. rings_are leads image unopened h g.allowed g.due p x (ap (λ y. slice_get y.row p) (sym g.is) ∙ at);
       told = λ p. ap (asking p) g.is ∙ told_is leads image unopened h g.allowed g.due p;
     }
 

@@ -1,5 +1,6 @@
 -- After any list of calls on a ringing that was made, the rule's values stand in its row. Assumes nothing.
-use Rattle.std.specs.Prelude.{◌≡◌, ℕ, false, not, ◌&&◌, ◌||◌, Bool, List, [], ◌∷◌, is_some, Ok, is_ok, Option, nat_le, nat_lt}
+use Rattle.std.specs.Prelude.{◌≡◌, ℕ, false, not, ◌&&◌, ◌||◌, Bool, List, [], ◌∷◌, is_some, Some, Ok, is_ok, Option, nat_le, nat_lt}
+use Rattle.std.specs.List.{slice_get}
 use Rattle.numbers.specs.declared.refusal.Refusal.TheVariants.{Stranger}
 use Rattle.numbers.specs.Refusals.{unless}
 use Rattle.sets.specs.declared.labels.BoxNumber.{BoxNumber}
@@ -10,9 +11,11 @@ use Rattle.frames.specs.Frames.{longest_frame}
 use Rattle.wire.specs.Meaning.{Meaning, WellFormed}
 use Rattle.rule.specs.Falls.{closes}
 use Rattle.rule.specs.Histories.{History, Allowed}
-use Rattle.rule.specs.Values.{rings}
+use Rattle.rule.specs.Values.{rings, estimate}
 use Rattle.rule.specs.Theorems.{QuietBefore}
-use Rattle.rows.specs.Places.{standing_of}
+use Rattle.rows.specs.declared.place.Blow.TheVariants.{Rings}
+use Rattle.rows.specs.declared.place.Rung.{Rung}
+use Rattle.rows.specs.Places.{rung, standing_of}
 use Rattle.rows.specs.Calls.{State, making, bad_row, telling, playing, asking}
 use Rattle.runs.specs.Runs.{Call, first_history, state_after, history_after, stand_by, state_by}
 
@@ -29,7 +32,8 @@ may_fall h q lost =
 
 -- a ringing with its row is that of a history, which keeps the limits and in which nobody rang before the last closed round. By the history
 -- alone: the row is not refused; a round is accepted exactly if there is room for the longest frame and nobody rings; a fall exactly if
--- the box may fall; and what is told of each box is what the rule gives it
+-- the box may fall; a box that rings does so in the last closed round on its estimate, and has drawn no strike order; and what is told of each
+-- box is what the rule gives it
 pub record Follows {K : Type 0} (leads : K → K → Bool) (image : K → List ℕ) (unopened : ℕ → Option (List ℕ)) (s : State K) (h : History K) : Type 0 where
   pub allowed : Allowed h
   pub quiet : QuietBefore h h.closed
@@ -37,6 +41,7 @@ pub record Follows {K : Type 0} (leads : K → K → Bool) (image : K → List �
   pub good : bad_row s ≡ false
   pub rounds : (room : ℕ) → is_ok (playing leads image room s) ≡ (nat_le longest_frame room && not (somebody_rings h))
   pub falls : (q : BoxNumber) (lost : BoxSet) → is_ok (telling q lost s) ≡ may_fall h q.0 lost
+  pub rings : (p : ℕ) (x : Rung K) → slice_get s.row p ≡ Some (rung x) → (x.round.0 ≡ h.closed) × (x.proposal ≡ estimate h leads p h.closed) × (x.blow ≡ Rings)
   pub told : (p : BoxNumber) → asking p s ≡ unless ((nat_le h.n p.0, Stranger) ∷ []) (standing_of (stand_by leads h p.0))
 
 -- it is so from the making on, after every list of calls, accepted or refused, of the history that the calls and their answers give

@@ -1,8 +1,8 @@
-use Rattle.std.proofs.Common.{◌≡◌, ◌+◌, Ok, refl, sym, ap, ◌∙◌, subst, arith}
+use Rattle.std.proofs.Common.{◌≡◌, ◌+◌, Ok, sym, ap, ◌∙◌, subst, arith}
+use Rattle.std.specs.Bool.{⊤}
 use Rattle.std.specs.Result.{result_map_both, result_unwrap_or}
-use Rattle.frames.specs.Faults.{map_fault}
-use Rattle.boxes.specs.Rounds.{closing}
-use Rattle.ringing.proofs.Hearing.{heard_below, ok_same, start, skips, tells_more, closes_so}
+use Rattle.boxes.specs.Rounds.{outcome}
+use Rattle.ringing.proofs.Hearing.{heard_below, ok_same, start, skips, tells_more, closed_so}
 use Rattle.boxes.proofs.Shown.{Shows}
 use Rattle.ringing.proofs.exchange.close_box.Goals as goal
 use Rattle.ringing.proofs.exchange.close_box.Goals.{then-q-number+in_ok-hear_box, else-q-number}
@@ -26,7 +26,7 @@ returns-in_err-hear_box g c = λ s r at.
     let other : c.loop-q.q ≡ b.held.number.0 → ⊥ = λ e. c.if-q-number.true (e ∙ sym (ap (λ x. x.0) c.number.ensures)) in
     let more = tells_more k.leads m.total m.transitive m.antisymmetric k.SIZE k.named k.image (g.W.Wire.meaning c.args.wire.now) (g.met.W.Wire.formed c.args.wire.now) s r b at
     c.loop-q.q l.notes (omega (arith, c.n-q-end.ensures)) other (c.loop-q.invariant.1 s r at) l.resting c.loop-q.invariant.0 in
-    let ok : c.hear_box.result ≡ Ok tt = c.hear_box.ensures.answer more.1 ∙ ap (result_map_both (λ _. tt) (λ e. e)) more.2 in
+    let ok : c.hear_box.result ≡ Ok tt = (let told = c.hear_box.ensures.answer more.1 in let heard = ap (result_map_both {U = ⊤} (λ _. tt) (λ e. e)) more.2 in grind (arith, told, heard)) in
     absurd (grind (arith, ok, c.in_err-hear_box.was))
 
 pub loop-q-preserved : goal.loop-q-preserved
@@ -42,7 +42,7 @@ loop-q-preserved g c =
             λ s r at.
                 let more = tells_more k.leads m.total m.transitive m.antisymmetric k.SIZE k.named k.image (g.W.Wire.meaning c.args.wire.now) (g.met.W.Wire.formed c.args.wire.now) s r b at
                 c.loop-q.q l.notes (omega (arith, c.n-q-end.ensures)) other (c.loop-q.invariant.1 s r at) l.resting c.loop-q.invariant.0 in
-                subst (λ n. Shows k.leads b n (heard_below s b.held.number.0 (c.loop-q.q + 1))) (sym (ap (λ x. x.notes) w.listening-is ∙ w.hear_box.ensures.notes more.1 ∙ ap (λ r. result_unwrap_or r l.notes) more.2)) more.3,
+                subst (λ n. Shows k.leads b n (heard_below s b.held.number.0 (c.loop-q.q + 1))) (let is = ap (λ x. x.notes) w.listening-is in let told = w.hear_box.ensures.notes more.1 in let heard = ap (λ r. result_unwrap_or r l.notes) more.2 in grind (arith, is, told, heard)) more.3,
           ))
       | else-q-number w ↦ ((
         ap (λ x. x.resting) w.listening-is ∙ c.loop-q.invariant.0,
@@ -56,22 +56,14 @@ pub returns-in-Ok : goal.returns-in-Ok
 returns-in-Ok g c = λ s r at.
     let k = g.K.Kind in
     let m = g.met.K.Kind in
-    let b = c.args.b in
-    let l = c.loop-q.listening in
-    let n : c.loop-q.q ≡ (g.W.Wire.meaning c.args.wire.now).n = omega (arith, c.n-q-end.ensures) in
-    let shows = subst (λ q. Shows k.leads b l.notes (heard_below s b.held.number.0 q)) n (c.loop-q.invariant.1 s r at) in
-    let closes = closes_so k.leads m.total m.transitive m.antisymmetric k.SIZE k.named k.image (g.W.Wire.meaning c.args.wire.now) (g.met.W.Wire.formed c.args.wire.now) s r b at l.notes shows in
-    let so = c.in-Ok.ensures ∙ ap (map_fault (λ e. (l, e))) (ap (λ x. closing x.held l.notes) c.loop-q.invariant.0 ∙ closes) in
-    ap Ok (ok_same _ _ _ refl so)
+    let so = closed_so k.leads m.total m.transitive m.antisymmetric k.SIZE k.named k.image (g.W.Wire.meaning c.args.wire.now) (g.met.W.Wire.formed c.args.wire.now) s r c.args.b at
+    c.loop-q.listening c.loop-q.q c.close.result c.loop-q.invariant.0 (omega (arith, c.n-q-end.ensures)) (c.loop-q.invariant.1 s r at) c.close.ensures in
+    ap Ok (ok_same _ _ _ (ap (result_map_both outcome (λ e. e)) c.in-Ok.is) so)
 
 pub returns-in-Err : goal.returns-in-Err
 returns-in-Err g c = λ s r at.
     let k = g.K.Kind in
     let m = g.met.K.Kind in
-    let b = c.args.b in
-    let l = c.loop-q.listening in
-    let n : c.loop-q.q ≡ (g.W.Wire.meaning c.args.wire.now).n = omega (arith, c.n-q-end.ensures) in
-    let shows = subst (λ q. Shows k.leads b l.notes (heard_below s b.held.number.0 q)) n (c.loop-q.invariant.1 s r at) in
-    let closes = closes_so k.leads m.total m.transitive m.antisymmetric k.SIZE k.named k.image (g.W.Wire.meaning c.args.wire.now) (g.met.W.Wire.formed c.args.wire.now) s r b at l.notes shows in
-    let so = c.in-Err.ensures ∙ ap (map_fault (λ e. (l, e))) (ap (λ x. closing x.held l.notes) c.loop-q.invariant.0 ∙ closes) in
-    absurd (grind (arith, so))
+    let so = closed_so k.leads m.total m.transitive m.antisymmetric k.SIZE k.named k.image (g.W.Wire.meaning c.args.wire.now) (g.met.W.Wire.formed c.args.wire.now) s r c.args.b at
+    c.loop-q.listening c.loop-q.q c.close.result c.loop-q.invariant.0 (omega (arith, c.n-q-end.ensures)) (c.loop-q.invariant.1 s r at) c.close.ensures in
+    absurd (grind (arith, so, c.in-Err.is))

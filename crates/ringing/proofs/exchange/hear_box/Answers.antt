@@ -48,8 +48,7 @@ pub returns-in-None : goal.returns-in-None
 returns-in-None g c =
     let m = g.W.Wire.meaning c.args.wire.now in
     let l = c.args.listening.now in
-    let k = g.K.Kind in
     let f = fetched_none m (g.met.W.Wire.formed c.args.wire.now) c.number.result.0 c.args.q.0 c.args.line.now c.fetch.new.out c.fetch.result c.requires.sender c.requires.room
     c.fetch.ensures.answer c.fetch.ensures.bytes (c.in_ok-length.was ∙ ap Ok c.in-None.is) in
-    let told = ap (told_notes k.leads k.SIZE k.named l.resting.held l.notes) (ap (λ x. heard m x.0 c.args.q.0) (sym c.number.ensures) ∙ f) in
+    let told = ap (told_notes g.K.Kind.leads g.K.Kind.SIZE g.K.Kind.named l.resting.held l.notes) (ap (λ x. heard m x.0 c.args.q.0) (sym c.number.ensures) ∙ f) in
     record { resting = refl; answer = λ _. sym (ap (result_map_both (λ _. tt) (λ e. e)) told); notes = λ _. sym (ap (λ r. result_unwrap_or r l.notes) told) }

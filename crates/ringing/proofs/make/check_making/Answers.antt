@@ -1,4 +1,4 @@
-use Rattle.std.proofs.Common.{◌≡◌, true, false, ap, sym, ◌∙◌, arith}
+use Rattle.std.proofs.Common.{◌≡◌, true, false, ap, arith}
 use Rattle.std.proofs.lemmas.Bool.Decides.{nat_tests}
 use Rattle.sets.specs.Tests.{any}
 use Rattle.rows.specs.Calls.{is_gone, bad_wire, making}
@@ -14,7 +14,7 @@ returns-then-n g c =
       | then-n-via-then-n w ↦ (grind (arith, nat_tests, w.if-n.true, c.n.ensures))
       | then-n-via-else-n+then-ne w ↦ (let n : m.n ≡ c.args.n = grind (arith, nat_tests, w.if-n.false, c.n.ensures) in
           let s = some_gone m (g.met.W.Wire.formed c.args.wire.now) w.gone.result w.empty.result w.gone.ensures w.empty.ensures in
-          let k : any (is_gone m) c.args.n ≡ true = ap (any (is_gone m)) (sym n) ∙ s ∙ sym w.ne.ensures ∙ w.if-ne.true in
+          let k : any (is_gone m) c.args.n ≡ true = (let a = ap (any (is_gone m)) n in grind (arith, a, s, w.ne.ensures, w.if-ne.true)) in
           grind arith)
     ] in
     grind (arith, nat_tests)
@@ -25,5 +25,5 @@ returns g c =
     let m = g.W.Wire.meaning c.args.wire.now in
     let n : m.n ≡ c.args.n = grind (arith, nat_tests, c.n.ensures) in
     let s = some_gone m (g.met.W.Wire.formed c.args.wire.now) c.gone.result c.empty.result c.gone.ensures c.empty.ensures in
-    let k : any (is_gone m) c.args.n ≡ false = ap (any (is_gone m)) (sym n) ∙ s ∙ sym c.ne.ensures ∙ c.if-ne.false in
+    let k : any (is_gone m) c.args.n ≡ false = (let a = ap (any (is_gone m)) n in grind (arith, a, s, c.ne.ensures, c.if-ne.false)) in
     grind (arith, nat_tests)

@@ -1,6 +1,5 @@
-use Rattle.std.proofs.Common.{length, map, refl, sym, ap, ◌∙◌, arith}
+use Rattle.std.proofs.Common.{length, map, refl, ap, ◌∙◌, arith}
 use Rattle.std.specs.List.{slice_get}
-use Rattle.std.specs.Result.{result_map_both}
 use Rattle.std.proofs.lemmas.Option.{slice_get_read}
 use Rattle.sets.specs.Companies.{company}
 use Rattle.rows.specs.declared.place.Place.TheVariants as place
@@ -17,7 +16,7 @@ pub returns-in_err-resting : goal.returns-in_err-resting
 returns-in_err-resting g c =
     let k = makes c.args.n c.args.t (g.W.Wire.meaning c.args.wire.now) (length c.args.row.now) c.args.proposals.now c.in_ok-check_making.ensures in
     never_refused c.args.n c.args.t c.loop-p.p c.index-proposals-p.result c.in_err-resting.field-0.0 k.size (omega (arith, k.given))
-    (sym (ap (result_map_both (λ b. b.held) (λ e. e)) c.in_err-resting.was) ∙ c.new.ensures)
+    (grind (arith, c.in_err-resting.was, c.new.ensures))
 
 pub put-requires : goal.put-requires
 put-requires g c =
@@ -28,7 +27,7 @@ pub loop-p-preserved : goal.loop-p-preserved
 loop-p-preserved g c =
     let k = makes c.args.n c.args.t (g.W.Wire.meaning c.args.wire.now) (length c.args.row.now) c.args.proposals.now c.in_ok-check_making.ensures in
     let b = c.in_ok-resting.resting in
-    let held = held_made c.args.n c.args.t c.loop-p.p c.index-proposals-p.result b.held k.size (omega (arith, k.given)) (sym (ap (result_map_both (λ b. b.held) (λ e. e)) c.in_ok-resting.was) ∙ c.new.ensures) in
+    let held = held_made c.args.n c.args.t c.loop-p.p c.index-proposals-p.result b.held k.size (omega (arith, k.given)) (grind (arith, c.in_ok-resting.was, c.new.ensures)) in
     λ i l. ap (λ row. slice_get (map shown row) i) c.put.ensures
     ∙ filled_more c.args.n c.args.t c.args.proposals.now c.loop-p.row c.loop-p.p (place.Resting b) c.index-proposals-p.result (omega (arith, k.given, k.places_are))
     (slice_get_read c.args.proposals.now (length c.args.proposals.now) c.loop-p.p c.index-proposals-p.result refl c.loop-p-test.true c.index-proposals-p.is)

@@ -32,17 +32,15 @@ returns-in_err-check_fall g c =
 pub returns-then-count-self : goal.returns-then-count-self
 returns-then-count-self g c =
     let r = c.args.self.now in
-    let m = g.W.Wire.meaning r.wire in
-    let s = state m r.t r.closed c.args.row.now in
-    let good = is_checked s c.in_ok-check_row.ensures in
-    let k = gone_counted m (g.met.W.Wire.formed r.wire) c.gone.result c.gone.ensures in
-    sym (answer_spent c.args.q c.args.lost s good (over_is c.args.row.now ∙ sym c.is_over.ensures ∙ c.if-is_over.false) c.check_fall.result c.check_fall.ensures c.in_ok-check_fall.was (omega (arith, k, c.count.ensures, c.if-count-self.true)))
+    let k = gone_counted (g.W.Wire.meaning r.wire) (g.met.W.Wire.formed r.wire) c.gone.result c.gone.ensures in
+    let s = state (g.W.Wire.meaning r.wire) r.t r.closed c.args.row.now in
+    sym (answer_spent c.args.q c.args.lost s (is_checked s c.in_ok-check_row.ensures) (over_is c.args.row.now ∙ sym c.is_over.ensures ∙ c.if-is_over.false)
+    c.check_fall.result c.check_fall.ensures c.in_ok-check_fall.was (omega (arith, k, c.count.ensures, c.if-count-self.true)))
 
 pub returns : goal.returns
 returns g c =
     let r = c.args.self.now in
-    let m = g.W.Wire.meaning r.wire in
-    let s = state m r.t r.closed c.args.row.now in
-    let good = is_checked s c.in_ok-check_row.ensures in
-    let k = gone_counted m (g.met.W.Wire.formed r.wire) c.gone.result c.gone.ensures in
-    sym (answer_ok c.args.q c.args.lost s good (over_is c.args.row.now ∙ sym c.is_over.ensures ∙ c.if-is_over.false) c.check_fall.result c.check_fall.ensures c.in_ok-check_fall.was (omega (arith, k, c.count.ensures, c.if-count-self.false)))
+    let s = state (g.W.Wire.meaning r.wire) r.t r.closed c.args.row.now in
+    let k = gone_counted s.wire (g.met.W.Wire.formed r.wire) c.gone.result c.gone.ensures in
+    sym (answer_ok c.args.q c.args.lost s (is_checked s c.in_ok-check_row.ensures) (over_is c.args.row.now ∙ sym c.is_over.ensures ∙ c.if-is_over.false)
+    c.check_fall.result c.check_fall.ensures c.in_ok-check_fall.was (omega (arith, k, c.count.ensures, c.if-count-self.false)))

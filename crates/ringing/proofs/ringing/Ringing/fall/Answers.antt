@@ -1,4 +1,4 @@
-use Rattle.std.proofs.Common.{ap, sym, ◌∙◌}
+use Rattle.std.proofs.Common.{ap, sym, ◌∙◌, ◌≡◌, arith}
 use Rattle.sets.specs.Companies.{company}
 use Rattle.wire.specs.Meaning as wire
 use Rattle.wire.specs.Meaning.{Meaning, falling}
@@ -11,7 +11,8 @@ pub invariant_of-self : goal.invariant_of-self
 invariant_of-self g c =
     let r = c.args.self.now in
     let m = g.W.Wire.meaning r.wire in
-    let size = ap (λ x. x.n) c.fall.ensures.meaning ∙ falls_size c.args.q.0 c.args.lost m in
+    let kept = falls_size c.args.q.0 c.args.lost m in
+    let size : (g.W.Wire.meaning c.fall.new.self).n ≡ m.n = grind (arith, c.fall.ensures.meaning, kept) in
     record { company = ap (λ n. company n r.t) size ∙ r.company }
 
 pub returns : goal.returns

@@ -1,6 +1,7 @@
-use Rattle.std.proofs.Common.{length, Ok, sym, ap, ◌∙◌}
+use Rattle.std.proofs.Common.{length, Ok, sym, ap, ◌∙◌, arith, refl}
 use Rattle.frames.specs.Faults.{map_fault}
 use Rattle.rows.specs.Calls.{making}
+use Rattle.ringing.proofs.Playing.{state_same}
 use Rattle.ringing.proofs.Making.{makes, makes_not, if_made}
 use Rattle.ringing.proofs.ringing.Ringing.make.Goals as goal
 
@@ -8,7 +9,7 @@ pub returns-in-Ok-clause-ringing : goal.returns-in-Ok-clause-ringing
 returns-in-Ok-clause-ringing g c =
     let m = g.W.Wire.meaning c.args.wire in
     let k = makes c.args.n c.args.t m (length c.args.row.now) c.args.proposals.now c.in-Ok.ensures.answer in
-    ap (λ row. Ok (record { wire = m; t = c.args.t; closed = 0; row = row })) c.in-Ok.ensures.row ∙ sym (ap (map_fault (λ e. (c.args.wire, e))) k.made)
+    ap Ok (state_same refl refl (omega arith) c.in-Ok.ensures.row) ∙ sym (ap (map_fault (λ e. (c.args.wire, e))) k.made)
 
 pub returns-in-Err-clause-ringing : goal.returns-in-Err-clause-ringing
 returns-in-Err-clause-ringing g c =
