@@ -1,4 +1,4 @@
-// What is checked before a call does anything.
+// What is checked before a fall, a round or an answer.
 ghost use Rattle.std.specs.Prelude.{◌≡◌, not, ◌||◌, ◌&&◌, nat_lt, []};
 ghost use Rattle.std.specs.List.{list_any};
 ghost use Rattle.sets.specs.Masks.{member, set_of};

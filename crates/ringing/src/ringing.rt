@@ -31,8 +31,8 @@ impl<W: Wire> Ringing<W> {
     ghost use Rattle.ringing.specs.States.{state};
 
     // Makes a ringing of n boxes, of which t may fall, over a wire, and sets up a new box with its proposal in each place of the
-    // row. A refused make gives the wire back and leaves the row as it was. After an accepted one, whatever calls follow, accepted or
-    // refused, the ringing and its row are those of the history of the calls.
+    // row. A refused make gives the wire back and leaves the row as it was. After an accepted one and any calls, accepted or refused, each
+    // handed the row as the call before left it, the ringing and its row are those of the history of the calls.
     pub fn make<K: Kind>(
         n: u32,
         t: u32,
@@ -51,7 +51,7 @@ impl<W: Wire> Ringing<W> {
         }
     }
 
-    // The wire, to look at: what was posted in the last round stands on it.
+    // The wire, to look at: after a round what was posted in it stands there.
     pub fn wire(&self) -> &W
         ensures { result.now ≡ self.now.wire }
     {

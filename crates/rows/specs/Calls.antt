@@ -72,8 +72,8 @@ module _ {K : Type 0} where
   is_other s p b =
       not (b.number.0 == p && b.n == s.wire.n && b.t == s.t && b.closed == s.closed) || any (λ q. member b.missing q && member s.wire.up q) 32
 
-  -- that this may not stand at place p: a box that is down stands there just if the wire has it not up; one that rings does so in the last
-  -- closed round, and in none before there is one
+  -- that this may not stand at place p: a box that is down stands there just if the wire has it not up, and one at rest or ringing only if it is
+  -- up; one that rings does so in the last closed round, and in none before there is one
   abbrev pub misplaced : State K → ℕ → Stand K → Bool
   misplaced s p (at_rest b) = not (member s.wire.up p) || is_other s p b
   misplaced s p (down r) = member s.wire.up p
@@ -131,7 +131,8 @@ module _ {K : Type 0} where
   carried image s = record s.wire { posted = λ q. cond (member s.wire.up q) (option_map (frame_bytes image) (sent s q)) None }
 
   module _ (leads : K → K → Bool) where
-    -- what the round makes of what stands at place p: a box that falls in it is then down; any other closes it by the frames that it hears
+    -- what the round makes of what stands at place p: a box at rest that falls in it is then down, and any other at rest closes it by the frames
+    -- that it hears; one that is down or rings stays
     abbrev pub stand_after : State K → ℕ → Stand K → Stand K
     stand_after s p (at_rest b) = cond (is_some (s.wire.lost p)) (down (coming s)) (stand_of (ruled_outcome leads b (heard_by s p)))
     stand_after s p (down r) = down r

@@ -30,7 +30,7 @@ MakeAccepted K = (n t : ℕ) (m : Meaning) (places : ℕ) (proposals : List K) �
     → ((q : ℕ) → q < n → (member m.up q ≡ true) × (m.lost q ≡ None))
     → making n t m places proposals ≡ Ok (record { wire = m; t = t; closed = 0; row = first_row n t proposals })
 
--- a row that is refused is so by every call, whatever else is wrong
+-- a row that is refused is so by every call on a ringing, whatever else is wrong
 abbrev pub RowFirst : {K : Type 0} → (K → K → Bool) → (K → List ℕ) → Type 0
 RowFirst {K} leads image = (s : State K) → bad_row s ≡ true
     → ((q : BoxNumber) (lost : BoxSet) → telling q lost s ≡ Err Row) × ((room : ℕ) → playing leads image room s ≡ Err Row) × ((p : BoxNumber) → asking p s ≡ Err Row)
@@ -46,9 +46,10 @@ RowMeans K = (s : State K) → bad_row s ≡ false
     × ((p : ℕ) (x : Rung K) → slice_get s.row p ≡ Some (rung x) → (member s.wire.up p ≡ true) × (x.round.0 ≡ s.closed) × (1 ≤ s.closed))
     × (gone_count s.wire ≤ s.t)
 
--- what a round may rely on: there are n places, each box at rest stands at its own, is of the company and up, and no more than t rounds are
--- closed. A wire on which it has not posted takes its frame; in room for the longest frame each box of the company is given what reaches
--- it; a box hears each frame that reaches it, if it has not heard that sender before; and its tally is not refused
+-- what a round may rely on: there are n places, each box at rest stands at its own place, is of the company and up, and no more than t rounds
+-- are closed. A wire with this n and these boxes up, on which the box has not posted, takes its frame; in room for the longest frame each
+-- box of the company is given what reaches it; a box hears each frame that reaches it, if it has not heard that sender before; and its
+-- tally is not refused
 pub record Goes {K : Type 0} (leads : K → K → Bool) (size : ℕ) (named : List ℕ → Option K) (image : K → List ℕ) (s : State K) : Type 0 where
   pub places : length s.row ≡ s.wire.n
   pub ahead : s.closed ≤ s.t

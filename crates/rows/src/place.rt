@@ -6,8 +6,7 @@ ghost use Rattle.rows.specs.Places.{shown, stand_of, standing_of, standing_word,
 use boxes::{Closed, Resting};
 use sets::RoundNumber;
 
-// How far the blow of a box that rings has come: none was drawn yet; it is out, that is, its strike order was drawn; it was
-// struck; it was missed.
+// How far the blow of a box that rings has come: no strike order was drawn yet; one was, and is out; it was struck; it was missed.
 #[derive(Clone, Copy, Debug, PartialEq, Eq)]
 pub enum Blow {
     Rings,

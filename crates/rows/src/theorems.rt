@@ -5,8 +5,9 @@ ghost use Rattle.rows.specs.Theorems.{RowDetermined, MakeAccepted, RowFirst, Row
 use boxes::boxes_stand;
 use kinds::Kind;
 
-// A row is no more than what stands in it. When a ringing is made; that a row which is refused is so first, and what one that is not has. In a round of a row that is not refused, and in which no box rings, nothing is refused: no
-// posting, no fetching, no frame that is heard and no closing.
+// A row is no more than what stands in it. A ringing is made where all is as it must be; a row that is refused is so first, by every call on a
+// ringing; and one that is not refused has in each place what may stand there. In a round of such a row, in which no box rings, nothing is
+// refused: no posting, no fetching, no frame that is heard and no tally.
 pub fn rows_stand<K: Kind>() -> u8
     ensures zero { result ≡ 0 }
     ensures determined { RowDetermined K }

@@ -33,7 +33,7 @@ may_fall h q lost =
 -- a ringing with its row is that of a history, which keeps the limits and in which nobody rang before the last closed round. By the history
 -- alone: the row is not refused; a round is accepted exactly if there is room for the longest frame and nobody rings; a fall exactly if
 -- the box may fall; a box that rings does so in the last closed round on its estimate, and has drawn no strike order; and what is told of each
--- box is what the rule gives it
+-- box is what the rule gives it, where other numbers are strangers
 pub record Follows {K : Type 0} (leads : K → K → Bool) (image : K → List ℕ) (unopened : ℕ → Option (List ℕ)) (s : State K) (h : History K) : Type 0 where
   pub allowed : Allowed h
   pub quiet : QuietBefore h h.closed
