@@ -67,7 +67,7 @@ fn read_head(bytes: &[u8]) -> Result<Head, FrameFault>
 
 // The proposal whose image begins at a place, and the place behind it; the two go beside each other as in `read_field`.
 #[tactic(auto, using(crate::proofs::Whole::reading))]
-fn read_proposal<K: Kind>(bytes: &[u8], at: usize) -> Result<(K, usize), FrameFault>
+pub fn read_proposal<K: Kind>(bytes: &[u8], at: usize) -> Result<(K, usize), FrameFault>
     ensures { result ≡ read_proposal K.SIZE K.named bytes.now at }
 {
     let mut image = ArrayVec::<u32, 4>::new();

@@ -7,7 +7,7 @@ mod frame;
 mod hex;
 mod theorems;
 
-pub use codec::{read_frame, write_frame};
+pub use codec::{read_frame, read_proposal, write_frame};
 pub use fault::{Field, FieldFault, FrameFault};
 pub use frame::{Frame, LONGEST_FRAME};
 pub use hex::HexBytes;

@@ -5,6 +5,7 @@ use Rattle.numbers.specs.declared.refusal.Refusal.TheVariants.{Stranger}
 use Rattle.numbers.specs.Refusals.{unless}
 use Rattle.sets.specs.declared.labels.BoxNumber.{BoxNumber}
 use Rattle.sets.specs.declared.set.BoxSet.{BoxSet}
+use Rattle.sets.specs.Companies.{bad_lost}
 use Rattle.sets.specs.Tests.{any, count}
 use Rattle.sets.specs.Masks.{member}
 use Rattle.frames.specs.Frames.{longest_frame}
@@ -27,7 +28,7 @@ somebody_rings h = any (λ p. closes h.falls p h.closed && rings h p h.closed) h
 -- q, q has not fallen, and fewer than t have
 abbrev pub may_fall : {K : Type 0} → History K → ℕ → BoxSet → Bool
 may_fall h q lost =
-    not (somebody_rings h) && nat_lt q h.n && not (any (λ i. member lost i && nat_le h.n i) 32 || member lost q)
+    not (somebody_rings h) && nat_lt q h.n && not (bad_lost h.n q lost)
     && not (is_some (h.falls q)) && nat_lt (count (λ i. is_some (h.falls i)) h.n) h.t
 
 -- a ringing with its row is that of a history, which keeps the limits and in which nobody rang before the last closed round. By the history

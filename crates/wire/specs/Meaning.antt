@@ -6,8 +6,7 @@ use Rattle.numbers.specs.declared.refusal.Refusal.TheVariants as refusal
 use Rattle.numbers.specs.Refusals.{unless}
 use Rattle.numbers.specs.Numbers.{fronted}
 use Rattle.sets.specs.declared.set.BoxSet.{BoxSet}
-use Rattle.sets.specs.Companies.{company_size}
-use Rattle.sets.specs.Tests.{any}
+use Rattle.sets.specs.Companies.{company_size, bad_lost}
 use Rattle.sets.specs.Masks.{member, set_of}
 use Rattle.wire.specs.Kept.{Falls, is_postable}
 
@@ -55,10 +54,6 @@ closed m = record m { up = set_of (λ i. member m.up i && not (is_some (m.lost i
 
 -- ---- falling
 
--- that the set is no lost set of box q: it has a box that is none of the company's, or q itself
-abbrev pub bad_lost : Meaning → ℕ → BoxSet → Bool
-bad_lost m q s = any (λ i. member s i && nat_le m.n i) 32 || member s q
-
 -- box q is falling besides, with s for its lost set
 abbrev pub fallen : ℕ → BoxSet → Meaning → Meaning
 fallen q s m = record m { lost = λ i. cond (i == q) (Some s) (m.lost i) }
@@ -68,7 +63,7 @@ unfoldable pub falling : ℕ → BoxSet → Meaning → Result Meaning Refusal
 falling q s m =
     unless
     ((nat_le m.n q, refusal.Stranger)
-    ∷ (bad_lost m q s, refusal.Set)
+    ∷ (bad_lost m.n q s, refusal.Set)
     ∷ (not (member m.up q) || is_some (m.lost q), refusal.Down)
     ∷ [])
     (fallen q s m)

@@ -1,0 +1,3 @@
+pub mod Entries
+pub mod Scripts
+pub mod Reading
