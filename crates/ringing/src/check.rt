@@ -1,32 +1,18 @@
 // What is checked before a fall, a round or an answer.
 ghost use Rattle.std.specs.Prelude.{◌≡◌, not, ◌||◌, ◌&&◌, nat_lt, []};
-ghost use Rattle.std.specs.List.{list_any};
 ghost use Rattle.sets.specs.Masks.{member, set_of};
 ghost use Rattle.wire.specs.Meaning.{falling, answer};
 ghost use Rattle.rows.specs.Places.{shown};
-ghost use Rattle.rows.specs.Calls.{has_rung, is_gone};
+ghost use Rattle.rows.specs.Calls.{is_gone};
 
 use super::ringing::Ringing;
 use boxes::Resting;
 use frames::LONGEST_FRAME;
 use kinds::Kind;
 use numbers::Refusal;
-use rows::Place;
+use rows::{Place, is_over};
 use sets::{BoxNumber, BoxSet, RoundNumber};
 use wire::Wire;
-
-fn has_rung<K: Kind>(place: &Place<K>) -> bool
-    ensures { result ≡ has_rung (shown place.now) }
-{
-    matches!(place, Place::Rung(_))
-}
-
-// Whether a box of the row rings.
-pub(crate) fn is_over<K: Kind>(row: &[Place<K>]) -> bool
-    ensures { result ≡ list_any (λ x. has_rung (shown x)) row.now }
-{
-    row.iter().any(has_rung)
-}
 
 // The boxes of the wire's company that are not up.
 fn down<W: Wire>(wire: &W) -> BoxSet

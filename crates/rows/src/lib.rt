@@ -4,5 +4,5 @@
 mod place;
 mod theorems;
 
-pub use place::{Blow, Place, Rung, Standing};
+pub use place::{Blow, Place, Rung, Standing, is_over};
 pub use theorems::rows_stand;

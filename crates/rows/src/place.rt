@@ -1,7 +1,9 @@
 // A row has a place for each box of a company. What stands at a place, and what is told of it.
 ghost use Rattle.std.specs.Prelude.{◌≡◌};
 ghost use Rattle.boxes.specs.Rounds.{outcome};
+ghost use Rattle.std.specs.List.{list_any};
 ghost use Rattle.rows.specs.Places.{shown, stand_of, standing_of, standing_word, round_of, proposal_of};
+ghost use Rattle.rows.specs.Calls.{has_rung};
 
 use boxes::{Closed, Resting};
 use sets::RoundNumber;
@@ -53,6 +55,20 @@ impl<K: Copy> Place<K> {
             Place::Rung(rung) => Standing::Rung(rung),
         }
     }
+
+    // Whether the box rings.
+    pub fn has_rung(&self) -> bool
+        ensures { result ≡ has_rung (shown self.now) }
+    {
+        matches!(self, Place::Rung(_))
+    }
+}
+
+// Whether a box of the row rings.
+pub fn is_over<K: Copy>(row: &[Place<K>]) -> bool
+    ensures { result ≡ list_any (λ x. has_rung (shown x)) row.now }
+{
+    row.iter().any(Place::has_rung)
 }
 
 // What stands for a box that has closed a round.

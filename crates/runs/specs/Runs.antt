@@ -1,5 +1,5 @@
 -- Calls on a ringing, one after another, and the history that they and their answers give. Assumes nothing.
-use Rattle.std.specs.Prelude.{ℕ, zero, suc, Bool, cond, not, ◌&&◌, List, [], ◌∷◌, map, get_or, Some, None, Option, is_ok, ◌==◌, nat_le, nat_lt}
+use Rattle.std.specs.Prelude.{ℕ, zero, suc, Bool, true, cond, not, ◌&&◌, List, [], ◌∷◌, map, get_or, Some, None, Option, is_ok, ◌==◌, nat_le, nat_lt}
 use Rattle.std.specs.List.{range_with_len}
 use Rattle.sets.specs.declared.labels.BoxNumber.{BoxNumber}
 use Rattle.sets.specs.declared.set.BoxSet.{BoxSet}
@@ -52,6 +52,11 @@ module _ {K : Type 0} (leads : K → K → Bool) (image : K → List ℕ) where
   unfoldable pub history_after : List Call → State K → History K → History K
   history_after [] s h = h
   history_after (c ∷ more) s h = history_after more (after c s) (cond (is_accepted c s) (noted c h) h)
+
+  -- each of them is accepted
+  unfoldable pub all_accepted : List Call → State K → Bool
+  all_accepted [] s = true
+  all_accepted (c ∷ more) s = is_accepted c s && all_accepted more (after c s)
 
 -- ---- the ringing and its row by a history
 

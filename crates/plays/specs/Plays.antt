@@ -1,0 +1,41 @@
+-- How a script is played, and what it comes to by the rule. Assumes nothing.
+use Rattle.std.specs.Prelude.{ℕ, zero, suc, ◌+◌, ◌-◌, cond, List, [], ◌∷◌, ◌++◌, get_or, ◌==◌}
+use Rattle.frames.specs.Frames.{longest_frame}
+use Rattle.rule.specs.Falls.{Falls, no_falls, with_fall, past, waste}
+use Rattle.rule.specs.Histories.{History}
+use Rattle.runs.specs.Runs.{Call, fall, round}
+use Rattle.scripts.specs.declared.entry.Entry.{Entry}
+use Rattle.scripts.specs.Scripts.{Told}
+
+-- ---- the calls
+
+-- the falls that are told before round r
+unfoldable pub told_before : ℕ → List Entry → List Call
+told_before r [] = []
+told_before r (e ∷ es) = cond (e.round.0 == r) (fall e.number e.lost ∷ told_before r es) (told_before r es)
+
+-- the calls of the rounds up to r: before each its falls, and then the round
+unfoldable pub calls_to : List Entry → ℕ → List Call
+calls_to es zero = []
+calls_to es (suc r) = calls_to es r ++ (told_before (suc r) es ++ (round longest_frame ∷ []))
+
+-- ---- the rule
+
+-- the fall of each box, if an entry names it
+unfoldable pub falls_of : List Entry → Falls
+falls_of [] = no_falls
+falls_of (e ∷ es) = with_fall e.round.0 e.number.0 e.lost (falls_of es)
+
+-- the round t + 1 - D, where D is the most by which the boxes found missing in a round of the script, up to t + 1, exceed its number
+abbrev pub ring_round : Told → ℕ
+ring_round s = s.t + 1 - waste (falls_of s.entries) s.n (s.t + 1)
+
+-- the history of a script with these proposals after that round. Entries of later rounds do not come about
+abbrev pub history_of : {K : Type 0} → Told → List K → K → History K
+history_of s proposals past_end = record {
+  n = s.n;
+  t = s.t;
+  proposals = λ p. get_or proposals p past_end;
+  falls = past (ring_round s) (falls_of s.entries);
+  closed = ring_round s;
+}

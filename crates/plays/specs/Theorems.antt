@@ -1,0 +1,58 @@
+-- What playing a script comes to. Assumes nothing.
+use Rattle.std.specs.Prelude.{◌≡◌, ℕ, ◌+◌, ◌<◌, ◌≤◌, Bool, true, false, List, length, Some, None, Option, Ok, Result}
+use Rattle.std.specs.List.{slice_get}
+use Rattle.numbers.specs.declared.refusal.Refusal.{Refusal}
+use Rattle.sets.specs.Companies.{company}
+use Rattle.wire.specs.Meaning.{Meaning, WellFormed}
+use Rattle.frames.specs.Faults.{and_then}
+use Rattle.rule.specs.declared.falls.Fall.{Fall}
+use Rattle.rule.specs.Falls.{closes}
+use Rattle.rule.specs.Histories.{History, Allowed, ringing_round}
+use Rattle.rule.specs.Values.{estimate}
+use Rattle.rule.specs.Theorems.{RingsIn, QuietBefore, RingsOnOne, RingsOnProposal, RingsOnFirst}
+use Rattle.rows.specs.declared.place.Blow.TheVariants.{Rings}
+use Rattle.rows.specs.Places.{down, rung}
+use Rattle.rows.specs.Calls.{State, making, over}
+use Rattle.runs.specs.Runs.{state_after, all_accepted, row_by, state_by}
+use Rattle.scripts.specs.Entries.{fitting}
+use Rattle.scripts.specs.Scripts.{Told}
+use Rattle.plays.specs.Plays.{calls_to, ring_round, history_of}
+
+-- a script as its reader lets one through
+pub record Script (s : Told) : Type 0 where
+  pub size : company s.n s.t ≡ true
+  pub few : length s.entries ≤ s.t
+  pub fitting : fitting s.n s.t s.entries ≡ true
+
+-- a history ends in the round in which its boxes ring: it keeps the limits; its last round is t + 1 - D, D taken over the rounds closed, and one of 1 to
+-- t + 1; nobody rang before; all boxes that closed it ring in it, and one at least; they do so on one estimate, which a box proposed, and no ringing box
+-- proposed one that goes before it
+pub record EndsRinging {K : Type 0} (leads : K → K → Bool) (h : History K) : Type 0 where
+  pub allowed : Allowed h
+  pub round : h.closed ≡ ringing_round h
+  pub in_time : (1 ≤ h.closed) × (h.closed ≤ h.t + 1)
+  pub quiet : QuietBefore h h.closed
+  pub all : (p : ℕ) → p < h.n → closes h.falls p h.closed ≡ true → RingsIn h p h.closed
+  pub one : (p : ℕ) × RingsIn h p h.closed
+  pub agree : RingsOnOne h leads × RingsOnProposal h leads × RingsOnFirst h leads
+
+-- what stands at the places then: a box that fell is down since its round, and each other rings in that round on its estimate
+abbrev pub AllRing : {K : Type 0} → (K → K → Bool) → History K → Type 0
+AllRing leads h = (p : ℕ) → p < h.n
+    → ((f : Fall) → h.falls p ≡ Some f → slice_get (row_by leads h) p ≡ Some (down f.round))
+    × (h.falls p ≡ None → slice_get (row_by leads h) p ≡ Some (rung (record { round = record { 0 = h.closed }; proposal = estimate h leads p h.closed; blow = Rings })))
+
+-- played over a wire with this meaning, from the making on, each call is accepted; the boxes do not ring before the last round; and then the
+-- ringing and its row are those of the rule
+pub record Plays {K : Type 0} (leads : K → K → Bool) (image : K → List ℕ) (unopened : ℕ → Option (List ℕ)) (s : Told) (h : History K) (first : State K) : Type 0 where
+  pub accepted : all_accepted leads image (calls_to s.entries h.closed) first ≡ true
+  pub still : (r : ℕ) → r < h.closed → over (state_after leads image (calls_to s.entries r) first) ≡ false
+  pub rings : over (state_after leads image (calls_to s.entries h.closed) first) ≡ true
+  pub is : state_after leads image (calls_to s.entries h.closed) first ≡ state_by leads h image unopened
+
+-- so it is for every script
+abbrev pub ScriptPlays : {K : Type 0} → (K → K → Bool) → (K → List ℕ) → Type 0
+ScriptPlays {K} leads image = (s : Told) → Script s → (proposals : List K) (past_end : K)
+    → let h = history_of s proposals past_end in
+    EndsRinging leads h × AllRing leads h
+    × ((places : ℕ) (m : Meaning) (first : State K) → WellFormed m → making s.n s.t m places proposals ≡ Ok first → Plays leads image m.posted s h first)
