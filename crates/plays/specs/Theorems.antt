@@ -19,7 +19,7 @@ use Rattle.scripts.specs.Scripts.{Told}
 use Rattle.plays.specs.Plays.{calls_to, ring_round, history_of}
 
 -- a script as its reader lets one through
-pub record Script (s : Told) : Type 0 where
+pub record Proper (s : Told) : Type 0 where
   pub size : company s.n s.t ≡ true
   pub few : length s.entries ≤ s.t
   pub fitting : fitting s.n s.t s.entries ≡ true
@@ -52,7 +52,7 @@ pub record Plays {K : Type 0} (leads : K → K → Bool) (image : K → List ℕ
 
 -- so it is for every script
 abbrev pub ScriptPlays : {K : Type 0} → (K → K → Bool) → (K → List ℕ) → Type 0
-ScriptPlays {K} leads image = (s : Told) → Script s → (proposals : List K) (past_end : K)
+ScriptPlays {K} leads image = (s : Told) → Proper s → (proposals : List K) (past_end : K)
     → let h = history_of s proposals past_end in
     EndsRinging leads h × AllRing leads h
     × ((places : ℕ) (m : Meaning) (first : State K) → WellFormed m → making s.n s.t m places proposals ≡ Ok first → Plays leads image m.posted s h first)

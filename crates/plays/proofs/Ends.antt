@@ -1,0 +1,116 @@
+-- In which round the boxes of a script ring, and what stands in their places then. Assumes nothing.
+use Rattle.std.proofs.Common.{◌≡◌, ℕ, suc, ◌+◌, ◌-◌, ◌<◌, ◌≤◌, Bool, true, false, cond, eqb, leb, ltb, ◌⊎◌, [], Some, None, Option, get_or, sym, refl, ap, ◌∙◌, inl, inr, arith}
+use Rattle.std.specs.List.{slice_get}
+use Rattle.std.proofs.Math.Decide.{le_ind}
+use Rattle.std.proofs.lemmas.Bool.{cases_Bool, cases_lt}
+use Rattle.std.proofs.lemmas.Bool.Decides.{nat_tests}
+use Rattle.rule.specs.declared.falls.Fall.{Fall}
+use Rattle.rule.specs.Falls.{fell_before, so_far, lasts, past, closes, waste}
+use Rattle.rule.specs.Histories.{History, Allowed, ringing_round, as_of}
+use Rattle.rule.specs.Values as rule
+use Rattle.rule.specs.Boxes.{outcome_of}
+use Rattle.rule.specs.Theorems.{RingsIn, Agreement, SomeRemains, OnlyPast}
+use Rattle.rule.proofs.Waste.{lacking_few, waste_few, waste_up}
+use Rattle.rows.specs.declared.place.Blow.TheVariants as blow
+use Rattle.rows.specs.Places.{down, stand_of}
+use Rattle.runs.specs.Runs.{stood, stand_by, row_by}
+use Rattle.runs.proofs.Pictured.{at_place, rings_stands, stood_fell, stood_lasts}
+use Rattle.runs.proofs.Same.{closes_same, rings_same}
+use Rattle.scripts.specs.Scripts.{Told}
+use Rattle.plays.specs.Plays.{falls_of, ring_round, history_of}
+use Rattle.plays.specs.Theorems.{Proper, EndsRinging, AllRing}
+use Rattle.plays.proofs.Entries.{history_to, history_all, all_allowed, to_allowed}
+
+module _ {K : Type 0} (leads : K → K → Bool) (agree : (h : History K) → Agreement h leads) (remains : (h : History K) → Allowed h → SomeRemains h)
+    (only_past : (h : History K) → OnlyPast h leads) (s : Told) (p : Proper s) (proposals : ℕ → K) where
+  -- the waste of the rounds up to r, and all of it
+  abbrev w : ℕ → ℕ
+  w r = waste (falls_of s.entries) s.n r
+
+  abbrev R : ℕ
+  R = ring_round s
+
+  w_few : (r : ℕ) → w r ≤ s.t
+  w_few = waste_few (history_all s p proposals 0) (all_allowed s p proposals 0)
+
+  w_up : (a b : ℕ) → a ≤ b → w a ≤ w b
+  w_up = waste_up (history_all s p proposals 0) (all_allowed s p proposals 0)
+
+  -- the round is one of 1 to t + 1
+  pub in_time : (1 ≤ R) × (R ≤ s.t + 1)
+  in_time = let a = w_few (s.t + 1) in (omega arith, omega arith)
+
+  -- rounds after it add nothing to the waste: no more than t boxes are missing
+  below : w R < w (s.t + 1) → (m : ℕ) → R ≤ m → w m < w (s.t + 1)
+  unfolding waste
+  below l m le =
+      le_ind (λ (k : ℕ). w k < w (s.t + 1)) l
+      (λ k after e. let a = w_few (s.t + 1) in let b = lacking_few (history_all s p proposals 0) (all_allowed s p proposals 0) (suc k) in omega arith)
+      m le
+
+  settled : w R ≡ w (s.t + 1)
+  settled = by (cases_lt (w R) (w (s.t + 1)))
+    where
+      by : (w R < w (s.t + 1)) ⊎ (w (s.t + 1) ≤ w R) → w R ≡ w (s.t + 1)
+      by (inl l) = absurd (let k = below l (s.t + 1) in_time.1 in omega arith)
+      by (inr m) = let u = w_up R (s.t + 1) in_time.1 in omega arith
+
+  -- t + 1 - D by the falls so far is that by all
+  round_to : (r : ℕ) → r ≤ R → ringing_round (history_to s p proposals R r) ≡ s.t + 1 - w r
+  round_to r l = ap (λ d. s.t + 1 - d) (only_past (history_all s p proposals 0) R r 0 0 l).2
+
+  rings_at : (r q : ℕ) → r ≤ R → q < s.n → closes (past R (falls_of s.entries)) q r ≡ true → rule.rings (history_to s p proposals R r) q r ≡ eqb r (s.t + 1 - w r)
+  rings_at r q l m c = (agree (history_to s p proposals R r) (to_allowed s p proposals R r)).0 q m c ∙ ap (eqb r) (round_to r l)
+
+  abbrev h : History K
+  h = history_to s p proposals R R
+
+  all_ring : (q : ℕ) → q < s.n → closes h.falls q R ≡ true → RingsIn h q R
+  all_ring q m c =
+      (m, c, rings_at R q (omega arith) m c ∙ (let e = settled in let i = in_time in let k : eqb R (s.t + 1 - w R) ≡ true = grind (arith, nat_tests) in k))
+
+  pub ends : EndsRinging leads h
+  ends =
+      let a = agree h (to_allowed s p proposals R R) in
+      record {
+        allowed = to_allowed s p proposals R R;
+        round = let e = settled in let i = in_time in omega (arith, round_to R (omega arith));
+        in_time = in_time;
+        quiet = λ q k l rings. absurd (
+        let r = agree (history_to s p proposals R k) (to_allowed s p proposals R k) in
+        let same = rings_same leads only_past (history_to s p proposals R k) h k refl q k (omega arith) in
+        let at = rings_at k q (omega arith) rings.0 rings.1 in
+        let up = w_up k (s.t + 1) (let i = in_time in omega arith) in
+        let is = rings.2 in
+        grind (arith, nat_tests));
+        all = all_ring;
+        one = let r = remains h (to_allowed s p proposals R R) in (r.0, all_ring r.0 r.1 (r.2 R));
+        agree = (a.3, a.4, a.5);
+      }
+
+  -- ---- what stands in the places
+
+  place_is : (q : ℕ) → q < s.n → slice_get (row_by leads h) q ≡ Some (stand_by leads h q)
+  place_is q m = at_place leads h p.size q ∙ ap (λ b. cond b (Some (stand_by leads h q)) None) (let k : ltb q s.n ≡ true = grind (arith, nat_tests) in k)
+
+  -- a fall that is among those so far is one of a round up to then
+  so_far_before : (o : Option Fall) (f : Fall) → so_far R o ≡ Some f → leb f.round.0 R ≡ true
+  so_far_before o f e = by (fell_before o (suc R)) refl e
+    where
+      by : (b : Bool) → fell_before o (suc R) ≡ b → cond b o None ≡ Some f → leb f.round.0 R ≡ true
+      by true is at = let k : fell_before (Some f) (suc R) ≡ true = ap (λ x. fell_before x (suc R)) (sym at) ∙ is in grind (arith, nat_tests)
+      by false is at = absurd (grind arith)
+
+  down_at : (q : ℕ) (f : Fall) → h.falls q ≡ Some f → stand_by leads h q ≡ down f.round
+  down_at q f e =
+      ap (λ o. stood o R (outcome_of h leads q R)) e
+      ∙ ap (λ b. cond b (down f.round) (stand_of (outcome_of h leads q R))) (so_far_before (falls_of s.entries q) f e)
+
+  closes_at : (q : ℕ) → h.falls q ≡ None → closes h.falls q R ≡ true
+  unfolding closes
+  closes_at q e = ap (λ o. lasts o R) e
+
+  pub stands : AllRing leads h
+  stands q m =
+      (λ f e. place_is q m ∙ ap Some (down_at q f e),
+      λ e. place_is q m ∙ ap Some (rings_stands leads h p.size (λ _. []) (λ _. None) q (closes_at q e) (all_ring q m (closes_at q e)).2))

@@ -1,0 +1,2 @@
+mod Entries
+mod Ends
