@@ -1,3 +1,4 @@
 mod Entries
 mod Ends
 mod Walked
+mod Playing

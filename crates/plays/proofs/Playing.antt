@@ -1,0 +1,175 @@
+-- Playing a script call by call. Assumes nothing.
+use Rattle.std.proofs.Common.{◌≡◌, ℕ, zero, suc, ◌+◌, ◌<◌, ◌≤◌, Bool, true, false, cond, not, ◌&&◌, List, [], ◌∷◌, ◌++◌, Some, None, Option, Ok, is_ok, get_or, sym, refl, ap, ◌∙◌, subst, arith}
+use Rattle.std.proofs.lemmas.Bool.Decides.{nat_tests}
+use Rattle.sets.proofs.Counts.{any_from}
+use Rattle.frames.specs.Frames.{longest_frame}
+use Rattle.wire.specs.Meaning.{Meaning, WellFormed}
+use Rattle.rule.specs.declared.falls.Fall.{Fall}
+use Rattle.rule.specs.Falls.{Falls, fell_before, so_far, past, closes}
+use Rattle.rule.specs.Histories.{History, Allowed}
+use Rattle.rule.specs.Values as rule
+use Rattle.rule.specs.Theorems.{Agreement, SomeRemains, OnlyPast, FallToCome}
+use Rattle.rows.specs.Calls.{State, making, bad_row, over, playing}
+use Rattle.runs.specs.Runs.{Call, round, first_history, noted, is_accepted, after, state_after, history_after, all_accepted}
+use Rattle.runs.specs.Theorems.{somebody_rings, Follows, CallsFollow}
+use Rattle.scripts.specs.declared.entry.Entry.{Entry}
+use Rattle.scripts.specs.Scripts.{Told}
+use Rattle.plays.specs.Plays.{told_before, calls_to, falls_of, ring_round, history_of}
+use Rattle.plays.specs.Theorems.{Proper, EndsRinging, Plays, ScriptPlays}
+use Rattle.plays.proofs.Entries.{dated}
+use Rattle.plays.proofs.Ends.{ends, stands}
+use Rattle.plays.proofs.Walked.{told_past, with_told, ready, silent, Reached, now, next, walk}
+
+-- ---- one list of calls after another
+
+module _ {K : Type 0} (leads : K → K → Bool) (image : K → List ℕ) where
+  pub after-append : (xs ys : List Call) (s : State K) → state_after leads image (xs ++ ys) s ≡ state_after leads image ys (state_after leads image xs s)
+  unfolding state_after
+  after-append [] ys s = refl
+  after-append (c ∷ xs) ys s = after-append xs ys (after leads image c s)
+
+  pub accepted-append : (xs ys : List Call) (s : State K) → all_accepted leads image (xs ++ ys) s ≡ (all_accepted leads image xs s && all_accepted leads image ys (state_after leads image xs s))
+  unfolding state_after all_accepted
+  accepted-append [] ys s = refl
+  accepted-append (c ∷ xs) ys s = let ih = accepted-append xs ys (after leads image c s) in grind arith
+
+-- ---- rounds, by whether a box of the row rings
+
+module _ {K : Type 0} (leads : K → K → Bool) (image : K → List ℕ) (s : State K) where
+  pub still_where_accepted : is_ok (playing leads image longest_frame s) ≡ true → over s ≡ false
+  unfolding playing
+  still_where_accepted ok = grind (arith, nat_tests)
+
+  pub over_where_refused : bad_row s ≡ false → is_ok (playing leads image longest_frame s) ≡ false → over s ≡ true
+  unfolding playing
+  over_where_refused good refused = grind (arith, nat_tests)
+
+module _ {K : Type 0} (leads : K → K → Bool) (image : K → List ℕ) (agree : (h : History K) → Agreement h leads) (remains : (h : History K) → Allowed h → SomeRemains h)
+    (only_past : (h : History K) → OnlyPast h leads) (coming : FallToCome) (follow : CallsFollow leads image) (s : Told) (p : Proper s) (proposals : List K) (past_end : K)
+    (places : ℕ) (m : Meaning) (first : State K) (formed : WellFormed m) (made : making s.n s.t m places proposals ≡ Ok first) where
+  abbrev proposed : ℕ → K
+  proposed q = get_or proposals q past_end
+
+  abbrev falls : Falls
+  falls = falls_of s.entries
+
+  -- after the falls f and r rounds
+  abbrev history : Falls → ℕ → History K
+  history f r = record { n = s.n; t = s.t; proposals = proposed; falls = f; closed = r }
+
+  abbrev At : State K → Falls → ℕ → Type 0
+  At x f r = Reached leads image agree only_past coming s p proposed m.posted x (history f r)
+
+  abbrev at : ℕ → State K
+  at r = state_after leads image (calls_to s.entries r) first
+
+  quiet_now : (r : ℕ) (f : Falls) → past r f ≡ past r falls → r < ring_round s → somebody_rings (history f r) ≡ false
+  quiet_now = silent leads image agree only_past coming s p proposed
+
+  follows_now : (x : State K) (f : Falls) (r : ℕ) → At x f r → Follows leads image m.posted x (history f r)
+  follows_now x f r = now leads image agree only_past coming s p proposed m.posted x (history f r)
+
+  -- ---- a round more
+
+  module _ (r : ℕ) (early : r < ring_round s) (there : At (at r) (past r falls) r) where
+    abbrev told : State K
+    told = state_after leads image (told_before (suc r) s.entries) (at r)
+
+    abbrev after_falls : Falls
+    after_falls = with_told (suc r) s.entries (past r falls)
+
+    walked : (all_accepted leads image (told_before (suc r) s.entries) (at r) ≡ true) × At told after_falls r
+    walked = walk leads image agree only_past coming s p proposed m.posted r early s.entries (at r) (past r falls) p.fitting (ready r s.entries) there
+
+    told_all : At told (past (suc r) falls) r
+    told_all = subst (λ f. At told f r) (told_past s.n s.t r s.entries p.fitting) walked.1
+
+    -- the falls of the round to come leave those before it as they are
+    past_same : past r (past (suc r) falls) ≡ past r falls
+    past_same = λ i q. by (falls q) i
+      where
+        by : (o : Option Fall) → so_far r (so_far (suc r) o) ≡ so_far r o
+        by None = grind arith
+        by (Some f) = grind (arith, nat_tests)
+
+    pub round_ok : is_ok (playing leads image longest_frame told) ≡ true
+    round_ok =
+        let rounds = (follows_now told (past (suc r) falls) r told_all).rounds longest_frame in
+        let quiet = quiet_now r (past (suc r) falls) past_same early in
+        grind (arith, nat_tests)
+
+    pub falls_ok : all_accepted leads image (told_before (suc r) s.entries) (at r) ≡ true
+    falls_ok = walked.0
+
+    abbrev then : State K
+    then = after leads image (round longest_frame) told
+
+    pub at_next : at (suc r) ≡ then
+    unfolding calls_to state_after
+    at_next =
+        after-append leads image (calls_to s.entries r) (told_before (suc r) s.entries ++ (round longest_frame ∷ [])) first
+        ∙ after-append leads image (told_before (suc r) s.entries) (round longest_frame ∷ []) (at r)
+
+    pub there_next : At (at (suc r)) (past (suc r) falls) (suc r)
+    there_next =
+        subst (λ x. At x (past (suc r) falls) (suc r)) (sym at_next)
+        (next leads image agree only_past coming s p proposed m.posted (round longest_frame) told (history (past (suc r) falls) r) round_ok told_all)
+
+    pub accepted_next : all_accepted leads image (calls_to s.entries r) first ≡ true → all_accepted leads image (calls_to s.entries (suc r)) first ≡ true
+    unfolding calls_to state_after all_accepted
+    accepted_next so_far =
+        let a = accepted-append leads image (calls_to s.entries r) (told_before (suc r) s.entries ++ (round longest_frame ∷ [])) first in
+        let b = accepted-append leads image (told_before (suc r) s.entries) (round longest_frame ∷ []) (at r) in
+        let f = falls_ok in
+        let k = round_ok in
+        a ∙ ap (λ x. x && all_accepted leads image (told_before (suc r) s.entries ++ (round longest_frame ∷ [])) (at r)) so_far ∙ b
+        ∙ ap (λ x. x && all_accepted leads image (round longest_frame ∷ []) told) f ∙ ap (λ x. x && true) k
+
+  -- ---- all rounds
+
+  begun : At (at 0) (past 0 falls) 0
+  unfolding calls_to state_after
+  begun = subst (λ f. At first f 0) (λ i q. by (falls q) (dated s p proposed q) i) (λ more. follow s.n s.t places m proposals first formed made past_end more)
+    where
+      by : (o : Option Fall) → fell_before o 1 ≡ false → None ≡ so_far 0 o
+      by o e = ap (λ b. cond b o None) (sym e)
+
+  none_called : all_accepted leads image (calls_to s.entries 0) first ≡ true
+  unfolding calls_to all_accepted
+  none_called = refl
+
+  reached : (r : ℕ) → r ≤ ring_round s → (all_accepted leads image (calls_to s.entries r) first ≡ true) × At (at r) (past r falls) r
+  reached zero l = (none_called, begun)
+  reached (suc r) l =
+      let k = reached r (omega arith) in
+      (accepted_next r (omega arith) k.1 k.0, there_next r (omega arith) k.1)
+
+  pub plays : EndsRinging leads (history (past (ring_round s) falls) (ring_round s)) → Plays leads image m.posted s (history (past (ring_round s) falls) (ring_round s)) first
+  plays e =
+      let end = reached (ring_round s) (omega arith) in
+      let f = follows_now (at (ring_round s)) (past (ring_round s) falls) (ring_round s) end.1 in
+      record {
+        accepted = end.0;
+        still = λ r l.
+        let k = reached r (omega arith) in
+        let g = (follows_now (at r) (past r falls) r k.1).rounds longest_frame in
+        let quiet = quiet_now r (past r falls) (past_again r) l in
+        still_where_accepted leads image (at r) (grind (arith, nat_tests));
+        rings =
+        let g = f.rounds longest_frame in
+        let one = e.one in
+        let some = any_from (λ q. closes (past (ring_round s) falls) q (ring_round s) && rule.rings (history (past (ring_round s) falls) (ring_round s)) q (ring_round s)) s.n one.0 one.1.0 (let a = one.1.1 in let b = one.1.2 in grind arith) in
+        over_where_refused leads image (at (ring_round s)) f.good (grind (arith, nat_tests));
+        is = f.is;
+      }
+    where
+      past_again : (r : ℕ) → past r (past r falls) ≡ past r falls
+      past_again r = (ready r s.entries).same
+
+pub script_plays : {K : Type 0} (leads : K → K → Bool) (image : K → List ℕ) → ((h : History K) → Agreement h leads) → ((h : History K) → Allowed h → SomeRemains h)
+    → ((h : History K) → OnlyPast h leads) → FallToCome → CallsFollow leads image → ScriptPlays leads image
+script_plays leads image agree remains only_past coming follow s p proposals past_end =
+    let proposed = λ (q : ℕ). get_or proposals q past_end in
+    let e = ends leads agree remains only_past s p proposed in
+    (e, stands leads agree remains only_past s p proposed,
+    λ places m first formed made. plays leads image agree remains only_past coming follow s p proposals past_end places m first formed made e)

@@ -1,0 +1,12 @@
+use Rattle.std.proofs.Common.{arith}
+use Rattle.plays.proofs.Playing.{script_plays}
+use Rattle.plays.proofs.theorems.plays_stand.Goals as goal
+
+pub returns-clause-zero : goal.returns-clause-zero
+returns-clause-zero g c = let z = c.rule_stands.ensures.zero in let y = c.calls_follow.ensures.zero in omega arith
+
+pub returns-clause-plays : goal.returns-clause-plays
+returns-clause-plays g c =
+    let k = g.K.Kind in
+    let rule = c.rule_stands.ensures in
+    script_plays k.leads k.image rule.agree rule.remains rule.past rule.coming c.calls_follow.ensures.follow
