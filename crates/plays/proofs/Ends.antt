@@ -1,23 +1,22 @@
 -- In which round the boxes of a script ring, and what stands in their places then. Assumes nothing.
-use Rattle.std.proofs.Common.{◌≡◌, ℕ, suc, ◌+◌, ◌-◌, ◌<◌, ◌≤◌, Bool, true, false, cond, eqb, leb, ltb, ◌⊎◌, [], Some, None, Option, get_or, sym, refl, ap, ◌∙◌, inl, inr, arith}
+use Rattle.std.proofs.Common.{◌≡◌, ℕ, suc, ◌+◌, ◌-◌, ◌<◌, ◌≤◌, Bool, true, false, cond, eqb, leb, ltb, ◌⊎◌, [], Some, None, Option, sym, refl, ap, ◌∙◌, inl, inr, arith}
 use Rattle.std.specs.List.{slice_get}
 use Rattle.std.proofs.Math.Decide.{le_ind}
-use Rattle.std.proofs.lemmas.Bool.{cases_Bool, cases_lt}
+use Rattle.std.proofs.lemmas.Bool.{cases_lt}
 use Rattle.std.proofs.lemmas.Bool.Decides.{nat_tests}
 use Rattle.rule.specs.declared.falls.Fall.{Fall}
 use Rattle.rule.specs.Falls.{fell_before, so_far, lasts, past, closes, waste}
-use Rattle.rule.specs.Histories.{History, Allowed, ringing_round, as_of}
+use Rattle.rule.specs.Histories.{History, Allowed, ringing_round}
 use Rattle.rule.specs.Values as rule
 use Rattle.rule.specs.Boxes.{outcome_of}
 use Rattle.rule.specs.Theorems.{RingsIn, Agreement, SomeRemains, OnlyPast}
 use Rattle.rule.proofs.Waste.{lacking_few, waste_few, waste_up}
-use Rattle.rows.specs.declared.place.Blow.TheVariants as blow
 use Rattle.rows.specs.Places.{down, stand_of}
 use Rattle.runs.specs.Runs.{stood, stand_by, row_by}
-use Rattle.runs.proofs.Pictured.{at_place, rings_stands, stood_fell, stood_lasts}
-use Rattle.runs.proofs.Same.{closes_same, rings_same}
+use Rattle.runs.proofs.Pictured.{at_place, rings_stands}
+use Rattle.runs.proofs.Same.{rings_same}
 use Rattle.scripts.specs.Scripts.{Told}
-use Rattle.plays.specs.Plays.{falls_of, ring_round, history_of}
+use Rattle.plays.specs.Plays.{falls_of, ring_round}
 use Rattle.plays.specs.Theorems.{Proper, EndsRinging, AllRing}
 use Rattle.plays.proofs.Entries.{history_to, history_all, all_allowed, to_allowed}
 
@@ -77,12 +76,12 @@ module _ {K : Type 0} (leads : K → K → Bool) (agree : (h : History K) → Ag
         round = let e = settled in let i = in_time in omega (arith, round_to R (omega arith));
         in_time = in_time;
         quiet = λ q k l rings. absurd (
-        let r = agree (history_to s p proposals R k) (to_allowed s p proposals R k) in
-        let same = rings_same leads only_past (history_to s p proposals R k) h k refl q k (omega arith) in
-        let at = rings_at k q (omega arith) rings.0 rings.1 in
-        let up = w_up k (s.t + 1) (let i = in_time in omega arith) in
-        let is = rings.2 in
-        grind (arith, nat_tests));
+            let r = agree (history_to s p proposals R k) (to_allowed s p proposals R k) in
+            let same = rings_same leads only_past (history_to s p proposals R k) h k refl q k (omega arith) in
+            let at = rings_at k q (omega arith) rings.0 rings.1 in
+            let up = w_up k (s.t + 1) (let i = in_time in omega arith) in
+            let is = rings.2 in
+            grind (arith, nat_tests));
         all = all_ring;
         one = let r = remains h (to_allowed s p proposals R R) in (r.0, all_ring r.0 r.1 (r.2 R));
         agree = (a.3, a.4, a.5);
@@ -111,6 +110,7 @@ module _ {K : Type 0} (leads : K → K → Bool) (agree : (h : History K) → Ag
   closes_at q e = ap (λ o. lasts o R) e
 
   pub stands : AllRing leads h
-  stands q m =
-      (λ f e. place_is q m ∙ ap Some (down_at q f e),
-      λ e. place_is q m ∙ ap Some (rings_stands leads h p.size (λ _. []) (λ _. None) q (closes_at q e) (all_ring q m (closes_at q e)).2))
+  stands q m = (
+    λ f e. place_is q m ∙ ap Some (down_at q f e),
+    λ e. place_is q m ∙ ap Some (rings_stands leads h p.size (λ _. []) (λ _. None) q (closes_at q e) (all_ring q m (closes_at q e)).2),
+  )

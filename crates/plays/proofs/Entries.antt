@@ -1,16 +1,14 @@
 -- The falls that entries tell. Assumes nothing.
-use Rattle.std.proofs.Common.{◌≡◌, ℕ, zero, suc, ◌+◌, ◌<◌, ◌≤◌, Bool, true, false, cond, not, ◌&&◌, ◌||◌, eqb, leb, ltb, ◌⊎◌, List, [], ◌∷◌, length, is_some, Some, None, Option, sym, refl, ap, ◌∙◌, subst, inl, inr, arith}
-use Rattle.std.proofs.lemmas.Bool.{cases_Bool, eqb-true, both_ways}
+use Rattle.std.proofs.Common.{◌≡◌, ℕ, suc, ◌<◌, ◌≤◌, Bool, true, false, cond, ◌||◌, eqb, List, [], ◌∷◌, length, is_some, Some, None, Option, refl, ap, ◌∙◌, arith}
 use Rattle.std.proofs.lemmas.Bool.Decides.{nat_tests}
-use Rattle.sets.specs.declared.set.BoxSet.{BoxSet}
 use Rattle.sets.specs.Companies.{bad_lost}
 use Rattle.sets.specs.Tests.{count}
 use Rattle.sets.proofs.Counts.{count_ext, count_le, count_more, count_none, none_any}
 use Rattle.rule.specs.declared.falls.Fall.{Fall}
-use Rattle.rule.specs.Falls.{Falls, no_falls, with_fall, fell_before, so_far, past}
+use Rattle.rule.specs.Falls.{fell_before, so_far, past}
 use Rattle.rule.specs.Histories.{History, Allowed}
 use Rattle.scripts.specs.declared.entry.Entry.{Entry}
-use Rattle.scripts.specs.Entries.{is_named, fits, fitting}
+use Rattle.scripts.specs.Entries.{is_named, fitting}
 use Rattle.scripts.specs.Scripts.{Told}
 use Rattle.plays.specs.Plays.{falls_of}
 use Rattle.plays.specs.Theorems.{Proper}

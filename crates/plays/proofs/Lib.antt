@@ -2,3 +2,6 @@ mod Entries
 mod Ends
 mod Walked
 mod Playing
+mod Calls
+mod Rounds
+mod Made

@@ -1,5 +1,6 @@
 -- Playing a script call by call. Assumes nothing.
-use Rattle.std.proofs.Common.{◌≡◌, ℕ, zero, suc, ◌+◌, ◌<◌, ◌≤◌, Bool, true, false, cond, not, ◌&&◌, List, [], ◌∷◌, ◌++◌, Some, None, Option, Ok, is_ok, get_or, sym, refl, ap, ◌∙◌, subst, arith}
+use Rattle.std.proofs.Common.{◌≡◌, ℕ, zero, suc, ◌<◌, ◌≤◌, Bool, true, false, cond, ◌&&◌, List, [], ◌∷◌, ◌++◌, Some, None, Option, Ok, is_ok, get_or, sym, refl, ap, ◌∙◌, subst, arith}
+use Rattle.std.proofs.Math.Decide.{le_ind}
 use Rattle.std.proofs.lemmas.Bool.Decides.{nat_tests}
 use Rattle.sets.proofs.Counts.{any_from}
 use Rattle.frames.specs.Frames.{longest_frame}
@@ -10,12 +11,12 @@ use Rattle.rule.specs.Histories.{History, Allowed}
 use Rattle.rule.specs.Values as rule
 use Rattle.rule.specs.Theorems.{Agreement, SomeRemains, OnlyPast, FallToCome}
 use Rattle.rows.specs.Calls.{State, making, bad_row, over, playing}
-use Rattle.runs.specs.Runs.{Call, round, first_history, noted, is_accepted, after, state_after, history_after, all_accepted}
+use Rattle.runs.specs.Runs.{Call, round, after, state_after, all_accepted, state_by}
 use Rattle.runs.specs.Theorems.{somebody_rings, Follows, CallsFollow}
 use Rattle.scripts.specs.declared.entry.Entry.{Entry}
 use Rattle.scripts.specs.Scripts.{Told}
-use Rattle.plays.specs.Plays.{told_before, calls_to, falls_of, ring_round, history_of}
-use Rattle.plays.specs.Theorems.{Proper, EndsRinging, Plays, ScriptPlays}
+use Rattle.plays.specs.Plays.{told_before, calls_to, falls_of, ring_round}
+use Rattle.plays.specs.Theorems.{Proper, EndsRinging, CallsGo, ScriptPlays}
 use Rattle.plays.proofs.Entries.{dated}
 use Rattle.plays.proofs.Ends.{ends, stands}
 use Rattle.plays.proofs.Walked.{told_past, with_told, ready, silent, Reached, now, next, walk}
@@ -32,6 +33,35 @@ module _ {K : Type 0} (leads : K → K → Bool) (image : K → List ℕ) where
   unfolding state_after all_accepted
   accepted-append [] ys s = refl
   accepted-append (c ∷ xs) ys s = let ih = accepted-append xs ys (after leads image c s) in grind arith
+
+-- what is accepted up to some round is so up to those before
+module _ {K : Type 0} (leads : K → K → Bool) (image : K → List ℕ) (es : List Entry) (s : State K) where
+  abbrev accepted_to : ℕ → Type 0
+  accepted_to r = all_accepted leads image (calls_to es r) s ≡ true
+
+  abbrev pub after_rounds : ℕ → State K
+  after_rounds r = state_after leads image (calls_to es r) s
+
+  abbrev pub falls_told : ℕ → State K
+  falls_told r = state_after leads image (told_before (suc r) es) (after_rounds r)
+
+  pub accepted_round : (r : ℕ) → accepted_to (suc r)
+      → accepted_to r × (all_accepted leads image (told_before (suc r) es) (after_rounds r) ≡ true) × (is_ok (playing leads image longest_frame (falls_told r)) ≡ true)
+  unfolding calls_to state_after all_accepted
+  accepted_round r is =
+      let a = accepted-append leads image (calls_to es r) (told_before (suc r) es ++ (round longest_frame ∷ [])) s in
+      let b = accepted-append leads image (told_before (suc r) es) (round longest_frame ∷ []) (after_rounds r) in
+      (grind arith, grind arith, grind arith)
+
+  pub accepted_back : (r b : ℕ) → r ≤ b → accepted_to b → accepted_to r
+  accepted_back r b l = le_ind (λ (m : ℕ). accepted_to m → accepted_to r) (λ is. is) (λ m k back is. back (accepted_round m is).0) b l
+
+  -- and a round more leads on
+  pub round_on : (r : ℕ) → after_rounds (suc r) ≡ after leads image (round longest_frame) (falls_told r)
+  unfolding calls_to state_after
+  round_on r =
+      after-append leads image (calls_to es r) (told_before (suc r) es ++ (round longest_frame ∷ [])) s
+      ∙ after-append leads image (told_before (suc r) es) (round longest_frame ∷ []) (after_rounds r)
 
 -- ---- rounds, by whether a box of the row rings
 
@@ -104,15 +134,9 @@ module _ {K : Type 0} (leads : K → K → Bool) (image : K → List ℕ) (agree
     abbrev then : State K
     then = after leads image (round longest_frame) told
 
-    pub at_next : at (suc r) ≡ then
-    unfolding calls_to state_after
-    at_next =
-        after-append leads image (calls_to s.entries r) (told_before (suc r) s.entries ++ (round longest_frame ∷ [])) first
-        ∙ after-append leads image (told_before (suc r) s.entries) (round longest_frame ∷ []) (at r)
-
     pub there_next : At (at (suc r)) (past (suc r) falls) (suc r)
     there_next =
-        subst (λ x. At x (past (suc r) falls) (suc r)) (sym at_next)
+        subst (λ x. At x (past (suc r) falls) (suc r)) (sym (round_on leads image s.entries first r))
         (next leads image agree only_past coming s p proposed m.posted (round longest_frame) told (history (past (suc r) falls) r) round_ok told_all)
 
     pub accepted_next : all_accepted leads image (calls_to s.entries r) first ≡ true → all_accepted leads image (calls_to s.entries (suc r)) first ≡ true
@@ -144,32 +168,35 @@ module _ {K : Type 0} (leads : K → K → Bool) (image : K → List ℕ) (agree
       let k = reached r (omega arith) in
       (accepted_next r (omega arith) k.1 k.0, there_next r (omega arith) k.1)
 
-  pub plays : EndsRinging leads (history (past (ring_round s) falls) (ring_round s)) → Plays leads image m.posted s (history (past (ring_round s) falls) (ring_round s)) first
+  abbrev h : History K
+  h = history (past (ring_round s) falls) (ring_round s)
+
+  pub plays : EndsRinging leads h → CallsGo leads image s first × (at (ring_round s) ≡ state_by leads h image m.posted)
   plays e =
       let end = reached (ring_round s) (omega arith) in
-      let f = follows_now (at (ring_round s)) (past (ring_round s) falls) (ring_round s) end.1 in
-      record {
-        accepted = end.0;
-        still = λ r l.
-        let k = reached r (omega arith) in
-        let g = (follows_now (at r) (past r falls) r k.1).rounds longest_frame in
-        let quiet = quiet_now r (past r falls) (past_again r) l in
-        still_where_accepted leads image (at r) (grind (arith, nat_tests));
-        rings =
-        let g = f.rounds longest_frame in
-        let one = e.one in
-        let some = any_from (λ q. closes (past (ring_round s) falls) q (ring_round s) && rule.rings (history (past (ring_round s) falls) (ring_round s)) q (ring_round s)) s.n one.0 one.1.0 (let a = one.1.1 in let b = one.1.2 in grind arith) in
-        over_where_refused leads image (at (ring_round s)) f.good (grind (arith, nat_tests));
-        is = f.is;
-      }
-    where
-      past_again : (r : ℕ) → past r (past r falls) ≡ past r falls
-      past_again r = (ready r s.entries).same
+      let f = follows_now (at (ring_round s)) (past (ring_round s) falls) (ring_round s) end.1 in (
+        record {
+          accepted = end.0;
+          still = λ r l.
+              let k = reached r (omega arith) in
+              let g = (follows_now (at r) (past r falls) r k.1).rounds longest_frame in
+              let quiet = quiet_now r (past r falls) (ready r s.entries).same l in
+              still_where_accepted leads image (at r) (grind (arith, nat_tests));
+          rings =
+              let g = f.rounds longest_frame in
+              let one = e.one in
+              let some = any_from (λ q. closes h.falls q h.closed && rule.rings h q h.closed) s.n one.0 one.1.0 (let a = one.1.1 in let b = one.1.2 in grind arith) in
+              over_where_refused leads image (at (ring_round s)) f.good (grind (arith, nat_tests));
+        },
+        f.is,
+      )
 
 pub script_plays : {K : Type 0} (leads : K → K → Bool) (image : K → List ℕ) → ((h : History K) → Agreement h leads) → ((h : History K) → Allowed h → SomeRemains h)
     → ((h : History K) → OnlyPast h leads) → FallToCome → CallsFollow leads image → ScriptPlays leads image
 script_plays leads image agree remains only_past coming follow s p proposals past_end =
     let proposed = λ (q : ℕ). get_or proposals q past_end in
-    let e = ends leads agree remains only_past s p proposed in
-    (e, stands leads agree remains only_past s p proposed,
-    λ places m first formed made. plays leads image agree remains only_past coming follow s p proposals past_end places m first formed made e)
+    let e = ends leads agree remains only_past s p proposed in (
+      e,
+      stands leads agree remains only_past s p proposed,
+      λ places m first formed made. plays leads image agree remains only_past coming follow s p proposals past_end places m first formed made e,
+    )

@@ -1,12 +1,12 @@
 -- Telling the falls of a round, entry by entry. Assumes nothing.
-use Rattle.std.proofs.Common.{◌≡◌, ℕ, zero, suc, ◌+◌, ◌-◌, ◌<◌, ◌≤◌, Bool, true, false, cond, not, ◌&&◌, eqb, leb, ltb, ◌⊎◌, List, [], ◌∷◌, ◌++◌, length, is_some, Some, None, Option, is_ok, sym, refl, ap, ◌∙◌, subst, inl, inr, arith}
+use Rattle.std.proofs.Common.{◌≡◌, ℕ, suc, ◌+◌, ◌-◌, ◌<◌, ◌≤◌, Bool, true, false, cond, ◌&&◌, eqb, ltb, ◌⊎◌, List, [], ◌∷◌, is_some, Some, None, Option, sym, refl, ap, ◌∙◌, subst, inl, inr, arith}
 use Rattle.std.proofs.lemmas.Bool.{cases_Bool, cases_lt, eqb-true, both_ways}
 use Rattle.std.proofs.lemmas.Bool.Decides.{nat_tests}
 use Rattle.sets.specs.Tests.{count}
-use Rattle.sets.proofs.Counts.{any_none, none_any, count_le, count_same}
+use Rattle.sets.proofs.Counts.{none_any, count_le, count_same}
 use Rattle.rule.specs.declared.falls.Fall.{Fall}
-use Rattle.rule.specs.Falls.{Falls, with_fall, fell_before, so_far, past, closes, waste}
-use Rattle.rule.specs.Histories.{History, Allowed, as_of}
+use Rattle.rule.specs.Falls.{Falls, with_fall, so_far, past, closes, waste}
+use Rattle.rule.specs.Histories.{History, as_of}
 use Rattle.rule.specs.Values as rule
 use Rattle.rule.specs.Theorems.{Agreement, OnlyPast, FallToCome}
 use Rattle.rule.proofs.Waste.{waste_up}
@@ -19,7 +19,7 @@ use Rattle.scripts.specs.Entries.{is_named, fitting}
 use Rattle.scripts.specs.Scripts.{Told}
 use Rattle.plays.specs.Plays.{told_before, falls_of, ring_round}
 use Rattle.plays.specs.Theorems.{Proper}
-use Rattle.plays.proofs.Entries.{Fits, fit_of, fall_by, falls_cons, falls_first, falls_other, unnamed_stands, so_far_some, history_to, history_all, all_allowed, few_fall}
+use Rattle.plays.proofs.Entries.{Fits, fit_of, fall_by, falls_first, falls_other, unnamed_stands, so_far_some, history_all, all_allowed, few_fall}
 
 -- ---- the falls, once those of a round were told
 

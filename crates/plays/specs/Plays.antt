@@ -1,9 +1,13 @@
 -- How a script is played, and what it comes to by the rule. Assumes nothing.
-use Rattle.std.specs.Prelude.{ℕ, zero, suc, ◌+◌, ◌-◌, cond, List, [], ◌∷◌, ◌++◌, get_or, ◌==◌}
+use Rattle.std.specs.Prelude.{ℕ, zero, suc, ◌+◌, ◌-◌, Bool, cond, List, [], ◌∷◌, ◌++◌, get_or, Result, ◌==◌}
+use Rattle.std.specs.Result.{result_map_both}
+use Rattle.numbers.specs.declared.refusal.Refusal.{Refusal}
 use Rattle.frames.specs.Frames.{longest_frame}
+use Rattle.wire.specs.Meaning.{Meaning}
 use Rattle.rule.specs.Falls.{Falls, no_falls, with_fall, past, waste}
 use Rattle.rule.specs.Histories.{History}
-use Rattle.runs.specs.Runs.{Call, fall, round}
+use Rattle.rows.specs.Calls.{State, making}
+use Rattle.runs.specs.Runs.{Call, fall, round, state_by}
 use Rattle.scripts.specs.declared.entry.Entry.{Entry}
 use Rattle.scripts.specs.Scripts.{Told}
 
@@ -39,3 +43,9 @@ history_of s proposals past_end = record {
   falls = past (ring_round s) (falls_of s.entries);
   closed = ring_round s;
 }
+
+-- what playing it over a wire with this meaning leaves, for a row of so many places: a ringing is made, unless that is refused, and at the end it
+-- is with its row that of the history
+abbrev pub script_played : {K : Type 0} → (K → K → Bool) → (K → List ℕ) → Told → Meaning → ℕ → List K → K → Result (State K) Refusal
+script_played leads image s m places proposals past_end =
+    result_map_both (λ _. state_by leads (history_of s proposals past_end) image m.posted) (λ e. e) (making s.n s.t m places proposals)

@@ -1,10 +1,8 @@
 -- What playing a script comes to. Assumes nothing.
-use Rattle.std.specs.Prelude.{◌≡◌, ℕ, ◌+◌, ◌<◌, ◌≤◌, Bool, true, false, List, length, Some, None, Option, Ok, Result}
+use Rattle.std.specs.Prelude.{◌≡◌, ℕ, ◌+◌, ◌<◌, ◌≤◌, Bool, true, false, List, length, Some, None, Ok}
 use Rattle.std.specs.List.{slice_get}
-use Rattle.numbers.specs.declared.refusal.Refusal.{Refusal}
 use Rattle.sets.specs.Companies.{company}
 use Rattle.wire.specs.Meaning.{Meaning, WellFormed}
-use Rattle.frames.specs.Faults.{and_then}
 use Rattle.rule.specs.declared.falls.Fall.{Fall}
 use Rattle.rule.specs.Falls.{closes}
 use Rattle.rule.specs.Histories.{History, Allowed, ringing_round}
@@ -42,17 +40,17 @@ AllRing leads h = (p : ℕ) → p < h.n
     → ((f : Fall) → h.falls p ≡ Some f → slice_get (row_by leads h) p ≡ Some (down f.round))
     × (h.falls p ≡ None → slice_get (row_by leads h) p ≡ Some (rung (record { round = record { 0 = h.closed }; proposal = estimate h leads p h.closed; blow = Rings })))
 
--- played over a wire with this meaning, from the making on, each call is accepted; the boxes do not ring before the last round; and then the
--- ringing and its row are those of the rule
-pub record Plays {K : Type 0} (leads : K → K → Bool) (image : K → List ℕ) (unopened : ℕ → Option (List ℕ)) (s : Told) (h : History K) (first : State K) : Type 0 where
-  pub accepted : all_accepted leads image (calls_to s.entries h.closed) first ≡ true
-  pub still : (r : ℕ) → r < h.closed → over (state_after leads image (calls_to s.entries r) first) ≡ false
-  pub rings : over (state_after leads image (calls_to s.entries h.closed) first) ≡ true
-  pub is : state_after leads image (calls_to s.entries h.closed) first ≡ state_by leads h image unopened
+-- played from this state on, each call is accepted, and the boxes ring after the last round and not before
+pub record CallsGo {K : Type 0} (leads : K → K → Bool) (image : K → List ℕ) (s : Told) (first : State K) : Type 0 where
+  pub accepted : all_accepted leads image (calls_to s.entries (ring_round s)) first ≡ true
+  pub still : (r : ℕ) → r < ring_round s → over (state_after leads image (calls_to s.entries r) first) ≡ false
+  pub rings : over (state_after leads image (calls_to s.entries (ring_round s)) first) ≡ true
 
--- so it is for every script
+-- every script, with these proposals, is played so over every wire, from the making on; then the ringing and its row are those of the rule, by which
+-- all ring
 abbrev pub ScriptPlays : {K : Type 0} → (K → K → Bool) → (K → List ℕ) → Type 0
 ScriptPlays {K} leads image = (s : Told) → Proper s → (proposals : List K) (past_end : K)
     → let h = history_of s proposals past_end in
     EndsRinging leads h × AllRing leads h
-    × ((places : ℕ) (m : Meaning) (first : State K) → WellFormed m → making s.n s.t m places proposals ≡ Ok first → Plays leads image m.posted s h first)
+    × ((places : ℕ) (m : Meaning) (first : State K) → WellFormed m → making s.n s.t m places proposals ≡ Ok first
+    → CallsGo leads image s first × (state_after leads image (calls_to s.entries (ring_round s)) first ≡ state_by leads h image m.posted))

@@ -1,6 +1,6 @@
 -- When a row is refused. Assumes nothing.
-use Rattle.std.proofs.Common.{◌≡◌, ℕ, ◌<◌, ◌≤◌, Bool, true, false, not, ◌&&◌, eqb, ltb, List, [], ◌∷◌, length, map, Some, None, Option, option_map, refl, sym, ap, ◌∙◌, arith}
-use Rattle.std.specs.List.{list_any, slice_get}
+use Rattle.std.proofs.Common.{◌≡◌, ℕ, ◌<◌, ◌≤◌, Bool, true, false, not, ◌&&◌, eqb, ltb, List, length, map, Some, None, Option, option_map, refl, sym, ap, ◌∙◌, arith}
+use Rattle.std.specs.List.{slice_get}
 use Rattle.std.proofs.lemmas.Bool.Decides.{nat_tests}
 use Rattle.std.proofs.lemmas.List.{length-map}
 use Rattle.std.proofs.lemmas.Option.{slice_get-map}
@@ -11,7 +11,7 @@ use Rattle.sets.proofs.Members.{company_count}
 use Rattle.wire.specs.Meaning.{Meaning, WellFormed}
 use Rattle.rows.specs.declared.place.Place.{Place}
 use Rattle.rows.specs.Places.{Stand, shown}
-use Rattle.rows.specs.Calls.{State, is_gone, gone_count, misplaced, bad_row, has_rung}
+use Rattle.rows.specs.Calls.{State, is_gone, gone_count, misplaced, bad_row}
 use Rattle.rows.proofs.Numbered.{numbered_some, numbered_none}
 use Rattle.ringing.specs.States.{state}
 use Rattle.ringing.proofs.Wires.{few}
@@ -19,10 +19,6 @@ use Rattle.ringing.proofs.Wires.{few}
 -- what stands at a place
 pub shown_at : {K : Type 0} (row : List (Place K)) (p : ℕ) → slice_get (map shown row) p ≡ option_map shown (slice_get row p)
 shown_at row p = slice_get-map shown row p
-
-pub over_is : {K : Type 0} (row : List (Place K)) → list_any has_rung (map shown row) ≡ list_any (λ x. has_rung (shown x)) row
-over_is [] = refl
-over_is (x ∷ xs) = let more = over_is xs in grind arith
 
 pub not_true : (a b : Bool) → a ≡ not b → a ≡ true → b ≡ false
 not_true a b e is = grind arith

@@ -1,6 +1,6 @@
 -- A row that is not refused. Assumes nothing.
-use Rattle.std.proofs.Common.{◌≡◌, ℕ, ◌<◌, ◌≤◌, true, false, ◌&&◌, List, length, map, Some, None, Option, option_map, sym, ap, ◌∙◌, arith}
-use Rattle.std.specs.List.{slice_get}
+use Rattle.std.proofs.Common.{◌≡◌, ℕ, ◌<◌, ◌≤◌, true, false, ◌&&◌, List, [], ◌∷◌, length, map, Some, None, Option, option_map, sym, refl, ap, ◌∙◌, arith}
+use Rattle.std.specs.List.{list_any, slice_get}
 use Rattle.std.proofs.lemmas.Bool.Decides.{nat_tests}
 use Rattle.std.proofs.lemmas.Option.{slice_get-map, slice_get_within}
 use Rattle.sets.specs.Tests.{any}
@@ -12,8 +12,13 @@ use Rattle.boxes.specs.declared.states.Resting.{Resting}
 use Rattle.rows.specs.declared.place.Place.{Place}
 use Rattle.rows.specs.declared.place.Place.TheVariants as place
 use Rattle.rows.specs.Places.{Stand, at_rest, shown}
-use Rattle.rows.specs.Calls.{State, gone_count, misplaced, bad_row}
+use Rattle.rows.specs.Calls.{State, gone_count, misplaced, bad_row, has_rung}
 use Rattle.rows.proofs.Numbered.{none_numbered}
+
+-- whether a box rings, by the places or by what stands in them
+pub over_is : {K : Type 0} (row : List (Place K)) → list_any has_rung (map shown row) ≡ list_any (λ x. has_rung (shown x)) row
+over_is [] = refl
+over_is (x ∷ xs) = let more = over_is xs in grind arith
 
 -- what is at rest at a place is a box at rest
 pub box_of : {K : Type 0} (x : Place K) (b : Held K) → shown x ≡ at_rest b → (a : Resting K) × (a.held ≡ b)

@@ -1,6 +1,6 @@
-mod Pictured
+pub mod Pictured
 mod Going
-mod Same
+pub mod Same
 mod Fallen
 mod Played
 mod Made

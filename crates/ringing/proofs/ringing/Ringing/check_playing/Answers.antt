@@ -1,6 +1,6 @@
 use Rattle.std.proofs.Common.{sym, ◌∙◌, arith}
+use Rattle.rows.proofs.Checked.{over_is}
 use Rattle.ringing.specs.States.{state}
-use Rattle.ringing.proofs.Rows.{over_is}
 use Rattle.ringing.proofs.Falls.{is_checked, not_checked}
 use Rattle.ringing.proofs.Playing.{play_bad, play_narrow, play_over, play_ok}
 use Rattle.ringing.proofs.ringing.Ringing.check_playing.Goals as goal

@@ -1,6 +1,7 @@
 use Rattle.std.proofs.Common.{sym, ◌∙◌, arith}
+use Rattle.rows.proofs.Checked.{over_is}
 use Rattle.ringing.specs.States.{state}
-use Rattle.ringing.proofs.Rows.{gone_counted, over_is}
+use Rattle.ringing.proofs.Rows.{gone_counted}
 use Rattle.ringing.proofs.Falls.{is_checked, not_checked, tell_bad, tell_over, answer_refused, answer_spent, answer_ok}
 use Rattle.ringing.proofs.ringing.Ringing.check_telling.Goals as goal
 
