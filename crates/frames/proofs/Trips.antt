@@ -27,8 +27,8 @@ field_back : (bytes : List ℕ) (place n : ℕ) (behind : List ℕ) (f : Field) 
     → read_field f bytes place ≡ Ok (record { value = n; next = place + length (written n) })
 field_back bytes place n behind f small is = rw (number_back n place bytes behind small is) refl
 
-rest_of : (bytes : List ℕ) (place n : ℕ) (behind : List ℕ) → drop place bytes ≡ written n ++ behind → drop (place + length (written n)) bytes ≡ behind
-rest_of bytes place n behind is = rw (← drop-drop (length (written n)) place bytes, is) (drop_at (written n) behind (length (written n)) refl)
+pub rest_of : (bytes : List ℕ) (place : ℕ) (xs behind : List ℕ) → drop place bytes ≡ xs ++ behind → drop (place + length xs) bytes ≡ behind
+rest_of bytes place xs behind is = rw (← drop-drop (length xs) place bytes, is) (drop_at xs behind (length xs) refl)
 
 length-cons : (n : ℕ) (ns : List ℕ) → length (written_all (n ∷ ns)) ≡ length (written n) + length (written_all ns)
 length-cons n ns = simp (written_all-cons, length-append)
@@ -46,17 +46,23 @@ unfolding read_image
 image_back bytes [] behind place small is = let e : place ≡ place + length (written_all []) = omega (arith, length-nil) in ap (λ p. Ok ([], p)) e
 image_back bytes (n ∷ ns) behind place (low, small) is =
     let split = first_of bytes place n ns behind is in
-    let on = image_back bytes ns behind (place + length (written n)) small (rest_of bytes place n (written_all ns ++ behind) split) in
+    let on = image_back bytes ns behind (place + length (written n)) small (rest_of bytes place (written n) (written_all ns ++ behind) split) in
     let end : place + length (written n) + length (written_all ns) ≡ place + length (written_all (n ∷ ns)) = omega (arith, length-cons n ns) in
     rw (field_back bytes place n (written_all ns ++ behind) field.Image low split, on) (ap (λ p. Ok (n ∷ ns, p)) end)
+
+-- so a proposal is judged, whose image may stand anywhere
+pub proposal_judged : {K : Type 0} (size : ℕ) (named : List ℕ → Option K) (bytes ns behind : List ℕ) (place : ℕ) → AllByRecursion (λ n. n < 2 ^ 32) ns → length ns ≡ size
+    → drop place bytes ≡ written_all ns ++ behind → read_proposal size named bytes place ≡ judged place (named ns) (place + length (written_all ns))
+unfolding read_proposal
+proposal_judged size named bytes ns behind place small long is = rw (ap (λ n. read_image bytes n place) (sym long) ∙ image_back bytes ns behind place small is) refl
 
 head_back : (bytes : List ℕ) (r s m : ℕ) (behind : List ℕ) → r < 2 ^ 32 → s < 2 ^ 32 → m < 2 ^ 32 → bytes ≡ written r ++ (written s ++ (written m ++ behind))
     → (k : ℕ) × (read_head bytes ≡ Ok (record { round = record { 0 = r }; sender = record { 0 = s }; missing = record { mask = m }; next = k })) × (drop k bytes ≡ behind) × (k + length behind ≡ length bytes)
 unfolding read_head
 head_back bytes r s m behind r32 s32 m32 is =
-    let is₁ = rest_of bytes 0 r (written s ++ (written m ++ behind)) is in
-    let is₂ = rest_of bytes (0 + length (written r)) s (written m ++ behind) is₁ in
-    let is₃ = rest_of bytes (0 + length (written r) + length (written s)) m behind is₂ in
+    let is₁ = rest_of bytes 0 (written r) (written s ++ (written m ++ behind)) is in
+    let is₂ = rest_of bytes (0 + length (written r)) (written s) (written m ++ behind) is₁ in
+    let is₃ = rest_of bytes (0 + length (written r) + length (written s)) (written m) behind is₂ in
     let a = field_back bytes 0 r (written s ++ (written m ++ behind)) field.Round r32 is in
     let b = field_back bytes (0 + length (written r)) s (written m ++ behind) field.Sender s32 is₁ in
     let d = field_back bytes (0 + length (written r) + length (written s)) m behind field.Set m32 is₂ in (
@@ -68,7 +74,7 @@ head_back bytes r s m behind r32 s32 m32 is =
 
 -- ---- reading only so
 
-next_inv : {X Y D E : Type 0} (up : D → E) (r : Result X D) (go : X → Result Y E) (y : Y) → and_then up r go ≡ Ok y → (x : X) × (r ≡ Ok x) × (go x ≡ Ok y)
+pub next_inv : {X Y D E : Type 0} (up : D → E) (r : Result X D) (go : X → Result Y E) (y : Y) → and_then up r go ≡ Ok y → (x : X) × (r ≡ Ok x) × (go x ≡ Ok y)
 next_inv up (Ok x) go y e = (x, refl, e)
 next_inv up (Err d) go y e = absurd cc
 
@@ -106,13 +112,21 @@ judged_inv : {K : Type 0} (place : ℕ) (o : Option K) (end : ℕ) (p : K × ℕ
 judged_inv place (Some x) end p e = (cc, cc)
 judged_inv place None end p e = absurd cc
 
+pub proposal_only : {K : Type 0} (size : ℕ) (image : K → List ℕ) (named : List ℕ → Option K) → ((ns : List ℕ) (x : K) → named ns ≡ Some x → image x ≡ ns)
+    → (bytes : List ℕ) (place : ℕ) (p : K × ℕ) → AllByRecursion (λ b. b < 256) bytes → read_proposal size named bytes place ≡ Ok p → drop place bytes ≡ written_all (image p.0) ++ drop p.1 bytes
+unfolding read_proposal
+proposal_only size image named only bytes place p all e =
+    let i = next_inv (λ (d : FrameFault). d) (read_image bytes size place) _ p e in
+    let o = judged_inv place (named i.0.0) i.0.1 p i.2 in
+    image_only bytes size place i.0 all i.1 ∙ ap (λ ns. written_all ns ++ drop i.0.1 bytes) (sym (only i.0.0 p.0 o.0)) ∙ ap (λ k. written_all (image p.0) ++ drop k bytes) o.1
+
 -- nothing follows, and the frame is the one that was made
 end_inv : {K : Type 0} (b : Bool) (fault : FrameFault) (x f : Frame K) → cond b (Err fault) (Ok x) ≡ Ok f → (b ≡ false) × (x ≡ f)
 end_inv true fault x f e = absurd cc
 end_inv false fault x f e = (refl, cc)
 
 -- the numbers of a head and of an image, and what follows, one after another
-fields_are : (r s m : ℕ) (ns behind : List ℕ) → written_all (r ∷ s ∷ m ∷ ns) ++ behind ≡ written r ++ (written s ++ (written m ++ (written_all ns ++ behind)))
+pub fields_are : (r s m : ℕ) (ns behind : List ℕ) → written_all (r ∷ s ∷ m ∷ ns) ++ behind ≡ written r ++ (written s ++ (written m ++ (written_all ns ++ behind)))
 unfolding written_all
 fields_are r s m ns behind = simp append_assoc
 
@@ -123,14 +137,13 @@ length_fields r s m ns = rw (written_all-append (r ∷ s ∷ m ∷ []) ns) (leng
 module _ {K : Type 0} (size : ℕ) (named : List ℕ → Option K) (r s m : ℕ) (ns behind : List ℕ) (all : AllByRecursion (λ n. n < 2 ^ 32) (r ∷ s ∷ m ∷ ns)) (long : length ns ≡ size) where
   judges : (k : ℕ) × (read_head (written_all (r ∷ s ∷ m ∷ ns) ++ behind) ≡ Ok (record { round = record { 0 = r }; sender = record { 0 = s }; missing = record { mask = m }; next = k }))
       × (read_proposal size named (written_all (r ∷ s ∷ m ∷ ns) ++ behind) k ≡ judged k (named ns) (length (written_all (r ∷ s ∷ m ∷ ns)))) × (k ≡ length (written_all (r ∷ s ∷ m ∷ [])))
-  unfolding read_proposal
   judges =
       let bytes = written_all (r ∷ s ∷ m ∷ ns) ++ behind in
       let p = head_back bytes r s m (written_all ns ++ behind) all.0 all.1.0 all.1.1.0 (fields_are r s m ns behind) in
-      let i = image_back bytes ns behind p.0 all.1.1.1 p.2 in
+      let i = proposal_judged size named bytes ns behind p.0 all.1.1.1 long p.2 in
       let k : p.0 ≡ length (written_all (r ∷ s ∷ m ∷ [])) = omega (arith, p.3, length-append (written_all (r ∷ s ∷ m ∷ ns)) behind, length-append (written_all ns) behind, length_fields r s m ns) in
       let end : p.0 + length (written_all ns) ≡ length (written_all (r ∷ s ∷ m ∷ ns)) = omega (arith, k, length_fields r s m ns) in
-      (p.0, p.1, rw (ap (λ n. read_image bytes n p.0) (sym long) ∙ i) (ap (λ e. judged p.0 (named ns) e) end), k)
+      (p.0, p.1, i ∙ ap (λ e. judged p.0 (named ns) e) end, k)
 
 -- ---- numbers that are refused
 
@@ -148,10 +161,10 @@ image_stop bytes [] behind place (suc size) e small few is stop =
 image_stop bytes (n ∷ ns) behind place (suc size) e (low, small) few is stop =
     let split = first_of bytes place n ns behind is in
     let there : place + length (written_all (n ∷ ns)) ≡ place + length (written n) + length (written_all ns) = omega (arith, length-cons n ns) in
-    let on = image_stop bytes ns behind (place + length (written n)) size e small (omega arith) (rest_of bytes place n (written_all ns ++ behind) split) (rw there at stop) in
+    let on = image_stop bytes ns behind (place + length (written n)) size e small (omega arith) (rest_of bytes place (written n) (written_all ns ++ behind) split) (rw there at stop) in
     rw (field_back bytes place n (written_all ns ++ behind) field.Image low split, on) refl
 
-wide : (ns : List ℕ) → AllByRecursion (λ n. n < 268435456) ns → AllByRecursion (λ n. n < 2 ^ 32) ns
+pub wide : (ns : List ℕ) → AllByRecursion (λ n. n < 268435456) ns → AllByRecursion (λ n. n < 2 ^ 32) ns
 wide [] all = tt
 wide (n ∷ ns) (low, all) = (omega arith, wide ns all)
 
@@ -181,7 +194,7 @@ module _ {K : Type 0} (size : ℕ) (image : K → List ℕ) (named : List ℕ �
   frame_number (r ∷ s ∷ []) behind e (r32, (s32, small)) few stop =
       let bytes = written_all (r ∷ s ∷ []) ++ behind in
       let is₀ = first_of bytes 0 r (s ∷ []) behind refl in
-      let is₁ = first_of bytes (0 + length (written r)) s [] behind (rest_of bytes 0 r _ is₀) in
+      let is₁ = first_of bytes (0 + length (written r)) s [] behind (rest_of bytes 0 (written r) _ is₀) in
       let at2 : length (written_all (r ∷ s ∷ [])) ≡ 0 + length (written r) + length (written s) = omega (arith, length-cons r (s ∷ []), length-cons s [], length-nil) in
       rw (field_back bytes 0 r _ field.Round r32 is₀, field_back bytes (0 + length (written r)) s _ field.Sender s32 is₁, field_stop field.Set bytes (0 + length (written r) + length (written s)) e (rw at2 at stop)) refl
   frame_number (r ∷ s ∷ m ∷ ns) behind e (r32, (s32, (m32, small))) few stop =
@@ -223,13 +236,10 @@ module _ {K : Type 0} (size : ℕ) (image : K → List ℕ) (named : List ℕ �
         (omega (arith, all, round.0, sender.0, missing.0, rest.0, long x), omega (arith, all, round.1, sender.1, missing.1, rest.1, long x))
 
   pub frame_only : ((ns : List ℕ) (x : K) → named ns ≡ Some x → image x ≡ ns) → FrameOnly size image named
-  unfolding read_proposal
   frame_only only bytes f all e =
       let p = next_inv (λ (d : FrameFault). d) (read_head bytes) _ f e in
       let q = next_inv (λ (d : FrameFault). d) (read_proposal size named bytes p.0.next) _ f p.2 in
-      let i = next_inv (λ (d : FrameFault). d) (read_image bytes size p.0.next) _ q.0 q.1 in
-      let o = judged_inv p.0.next (named i.0.0) i.0.1 q.0 i.2 in
       let w = end_inv (ltb q.0.1 (length bytes)) _ _ f q.2 in
-      let over : length bytes ≤ i.0.1 = omega (arith, ltb-false q.0.1 (length bytes) w.0, o.1) in
-      let rest : drop p.0.next bytes ≡ written_all (image q.0.0) = image_only bytes size p.0.next i.0 all i.1 ∙ rw (drop_all i.0.1 bytes over, append-nil, only i.0.0 q.0.0 o.0) refl in
+      let over = ltb-false q.0.1 (length bytes) w.0 in
+      let rest : drop p.0.next bytes ≡ written_all (image q.0.0) = proposal_only size image named only bytes p.0.next q.0 all q.1 ∙ rw (drop_all q.0.1 bytes over, append-nil) refl in
       rw (← w.1) (head_only bytes p.0 all p.1 ∙ rw (rest, written_all-cons, written_all-cons, written_all-cons) refl)

@@ -1,3 +1,4 @@
 pub mod Entries
 pub mod Scripts
 pub mod Reading
+pub mod Theorems

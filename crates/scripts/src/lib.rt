@@ -4,6 +4,9 @@
 mod entry;
 mod reader;
 mod script;
+mod theorems;
 
 pub use entry::Entry;
+pub use reader::read_script;
 pub use script::{MOST_FALLS, Script};
+pub use theorems::scripts_stand;

@@ -1,8 +1,8 @@
 // Reading a script. Each number or image is judged when it is read, so the first fault met is the one told.
-ghost use Rattle.std.specs.Prelude.{◌≡◌, ◌≤◌, length, true};
+ghost use Rattle.std.specs.Prelude.{◌≡◌, length, true};
 ghost use Rattle.std.specs.Result.{result_map_both};
 ghost use Rattle.sets.specs.Companies.{company};
-ghost use Rattle.scripts.specs.Entries.{fitting};
+ghost use Rattle.scripts.specs.Entries.{is_named};
 ghost use Rattle.scripts.specs.Scripts.{told};
 ghost use Rattle.scripts.specs.Reading.{number_at, read_head, several, proposal_at, entry_at, read_entries, read_script, filled};
 
@@ -49,17 +49,45 @@ fn read_head(bytes: &[u8], places: usize) -> Result<Head, Refusal>
     })
 }
 
+// The proposal at a place, and the place behind it.
+fn proposal_at<K: Kind>(bytes: &[u8], at: usize) -> Result<(K, usize), Refusal>
+    ensures { result ≡ proposal_at K.SIZE K.named bytes.now at }
+{
+    read_proposal(bytes, at).map_err(|fault| fault.refusal())
+}
+
+// Judges so many proposals, and tells the place behind the last image.
+#[tactic(auto, using(crate::proofs::Several::reading))]
+fn judge_proposals<K: Kind>(bytes: &[u8], at: usize, n: u32) -> Result<usize, Refusal>
+    ensures { result ≡ result_map_both (λ x. x.1) (λ e. e) (several (λ _. proposal_at K.SIZE K.named bytes.now) n at) }
+{
+    let mut next = at;
+    for _ in 0..n {
+        let (_, end) = proposal_at::<K>(bytes, next)?;
+        next = end;
+    }
+    Ok(next)
+}
+
 // Reads a proposal into each of the places, and tells the place behind the last image.
+#[tactic(auto, using(crate::proofs::Several::reading))]
 fn read_proposals<K: Kind>(bytes: &[u8], at: usize, places: &mut [K]) -> Result<usize, Refusal>
     ensures { result_map_both (λ end. (places.new, end)) (λ e. e) result ≡ several (λ _. proposal_at K.SIZE K.named bytes.now) (length places.old) at }
 {
     let mut next = at;
     for place in places.iter_mut() {
-        let (proposal, end) = read_proposal::<K>(bytes, next).map_err(|fault| fault.refusal())?;
+        let (proposal, end) = proposal_at::<K>(bytes, next)?;
         *place = proposal;
         next = end;
     }
     Ok(next)
+}
+
+// Whether one of the entries names the box.
+fn is_named(entries: &[Entry], q: BoxNumber) -> bool
+    ensures { result ≡ is_named q.0 entries.now }
+{
+    entries.iter().any(|entry| entry.number == q)
 }
 
 // The entry at a place, where these stand before it.
@@ -70,6 +98,7 @@ fn read_entry(
     head: Head,
     before: &[Entry],
 ) -> Result<(Entry, usize), Refusal>
+    requires { company head.n head.t ≡ true }
     ensures { result ≡ entry_at head.n head.t bytes.now before.now at }
 {
     let round = number_at(bytes, at)?;
@@ -80,21 +109,66 @@ fn read_entry(
     if number.value >= head.n {
         return Err(Refusal::Stranger);
     }
-    let number_of = BoxNumber(number.value);
-    if before.iter().any(|entry| entry.number == number_of) {
+    let q = BoxNumber(number.value);
+    if is_named(before, q) {
         return Err(Refusal::Entry);
     }
     let set = number_at(bytes, number.next)?;
     let lost = BoxSet::from_mask(set.value);
-    if !lost.is_below(head.n) || lost.contains(number_of) {
+    if !lost.is_below(head.n) || lost.contains(q) {
         return Err(Refusal::Set);
     }
     Ok((
         Entry {
             round: RoundNumber(round.value),
-            number: number_of,
+            number: q,
             lost,
         },
         set.next,
     ))
+}
+
+// The entries, of which the count stands at a place, and the place behind them.
+#[tactic(auto, using(crate::proofs::Several::reading), unfolding(crate::specs::Reading::read_entries))]
+fn read_entries(
+    bytes: &[u8],
+    at: usize,
+    head: Head,
+) -> Result<(ArrayVec<Entry, MOST_FALLS>, usize), Refusal>
+    requires { company head.n head.t ≡ true }
+    ensures { result_map_both (λ r. (r.0.items, r.1)) (λ e. e) result ≡ read_entries head.n head.t bytes.now at }
+{
+    let count = number_at(bytes, at)?;
+    if count.value > head.t {
+        return Err(Refusal::Entry);
+    }
+    let mut entries = ArrayVec::new();
+    let mut next = count.next;
+    for _ in 0..count.value {
+        let (entry, end) = read_entry(bytes, next, head, &entries)?;
+        entries.push(entry);
+        next = end;
+    }
+    Ok((entries, next))
+}
+
+// Reads the script that all the bytes make, lays its proposals into the places from the first on, and tells the rest. A refusal touches no place,
+// so the proposals are laid last: there is no room beside for those of an open kind, of which no proof knows the size.
+pub fn read_script<K: Kind>(bytes: &[u8], places: &mut [K]) -> Result<Script, Refusal>
+    ensures script { result_map_both told (λ e. e) result ≡ result_map_both (λ x. x.0) (λ e. e) (read_script K.SIZE K.named (length places.old) bytes.now) }
+    ensures places { places.new ≡ filled (read_script K.SIZE K.named (length places.old) bytes.now) places.old }
+{
+    let head = read_head(bytes, places.len())?;
+    let next = judge_proposals::<K>(bytes, head.next, head.n)?;
+    let (entries, end) = read_entries(bytes, next, head)?;
+    if end < bytes.len() {
+        return Err(Refusal::Surplus);
+    }
+    let n = head.n as usize;
+    read_proposals(bytes, head.next, &mut places[..n])?;
+    Ok(Script {
+        n: head.n,
+        t: head.t,
+        entries,
+    })
 }

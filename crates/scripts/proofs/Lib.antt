@@ -1,0 +1,5 @@
+pub mod Several
+pub mod Heads
+pub mod Fitting
+pub mod Whole
+pub mod Trips

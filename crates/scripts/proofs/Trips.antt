@@ -1,0 +1,282 @@
+-- A script that is written reads back, and nothing else reads so. Assumes nothing.
+use Rattle.std.proofs.Common.{◌≡◌, ℕ, ◌+◌, ◌^◌, ◌<◌, ◌≤◌, ◌==◌, Bool, true, false, not, nat_le, nat_lt, List, [], ◌∷◌, ◌++◌, length, drop, Some, Ok, Err, Option, Result, sym, refl, ap, ◌∙◌, append_assoc, append-nil, arith, length-append}
+use Rattle.std.specs.List.{flat_map, AllByRecursion}
+use Rattle.std.proofs.lemmas.List.{drop_all, length-drop}
+use Rattle.std.proofs.lemmas.Grind.{flat_map-append}
+use Rattle.std.proofs.lemmas.Bool.Decides.{nat_tests}
+use Rattle.std.proofs.lemmas.Bool.{ltb-false}
+use Rattle.numbers.specs.declared.codec.Decoded.{Decoded}
+use Rattle.numbers.specs.declared.codec.NumberFault.{NumberFault}
+use Rattle.numbers.specs.declared.refusal.Refusal.{Refusal}
+use Rattle.numbers.specs.declared.refusal.Refusal.TheVariants.{Surplus, Company, Row}
+use Rattle.numbers.specs.Refusals.{unless}
+use Rattle.numbers.specs.Numbers.{written, written_all, read_number}
+use Rattle.numbers.proofs.Laid.{written_all-nil, written_all-cons, written_all-append}
+use Rattle.numbers.proofs.Trips.{number_back, number_only}
+use Rattle.sets.specs.Companies.{company, bad_lost}
+use Rattle.frames.specs.Faults.{map_fault, refusal_of}
+use Rattle.frames.specs.Frames.{read_proposal}
+use Rattle.frames.proofs.Trips.{next_inv, rest_of, fields_are, wide, proposal_judged, proposal_only}
+use Rattle.scripts.specs.declared.entry.Entry.{Entry}
+use Rattle.scripts.specs.declared.reader.Head.{Head}
+use Rattle.scripts.specs.Scripts.{Told}
+use Rattle.scripts.specs.Entries.{is_named, bad_round, fits, fitting}
+use Rattle.scripts.specs.Reading.{number_at, read_head, several, proposal_at, entry_at, read_entries, read_script}
+use Rattle.scripts.specs.Theorems.{entry_numbers, script_numbers, Stands, ScriptOnly, ScriptBack}
+use Rattle.scripts.proofs.Heads.{head_is}
+use Rattle.scripts.proofs.Fitting.{EntryRead, entry_read, entries_read, entries_fit, unless_one}
+use Rattle.scripts.proofs.Several.{several_none, several_more, several_keeps, several_length}
+use Rattle.scripts.proofs.Whole.{script_is}
+
+mapped : {X D E : Type 0} (up : D → E) (r : Result X D) (x : X) → map_fault up r ≡ Ok x → r ≡ Ok x
+mapped up (Ok y) x is = cc
+mapped up (Err e) x is = absurd cc
+
+-- ---- things one after another
+
+written_more : {X : Type 0} (numbers : X → List ℕ) (before : List X) (x : X) → written_all (flat_map numbers (before ++ (x ∷ []))) ≡ written_all (flat_map numbers before) ++ written_all (numbers x)
+written_more numbers before x =
+    let one : flat_map numbers (x ∷ []) ≡ numbers x = append-nil (numbers x) in
+    rw (flat_map-append numbers before (x ∷ []), one) (written_all-append (flat_map numbers before) (numbers x))
+
+-- each may stand behind those before it
+abbrev AllMay : {X : Type 0} → (List X → X → Type 0) → List X → List X → Type 0
+AllMay May before [] = Unit {0}
+AllMay May before (x ∷ xs) = May before x × AllMay May (before ++ (x ∷ [])) xs
+
+module _ {X : Type 0} (numbers : X → List ℕ) (one : List X → ℕ → Result (X × ℕ) Refusal) (bytes : List ℕ) where
+  -- where each is its numbers, all are
+  several_only : ((before : List X) (place : ℕ) (next : X × ℕ) → one before place ≡ Ok next → drop place bytes ≡ written_all (numbers next.0) ++ drop next.1 bytes)
+      → (at k : ℕ) (all : List X × ℕ) → several one k at ≡ Ok all → drop at bytes ≡ written_all (flat_map numbers all.0) ++ drop all.1 bytes
+  several_only each at k all is =
+      several_keeps one at (λ _ xs place. drop at bytes ≡ written_all (flat_map numbers xs) ++ drop place bytes) (rw written_all-nil refl) (λ _ before place next on read.
+      on ∙ rw (each before place next read, written_more numbers before next.0, append_assoc) refl) k all is
+
+  module _ (May : List X → X → Type 0) where
+    several_back : ((before : List X) (x : X) (place : ℕ) (behind : List ℕ) → May before x → drop place bytes ≡ written_all (numbers x) ++ behind → one before place ≡ Ok (x, place + length (written_all (numbers x))))
+        → (before xs : List X) (at place : ℕ) (behind : List ℕ) → several one (length before) at ≡ Ok (before, place) → AllMay May before xs → drop place bytes ≡ written_all (flat_map numbers xs) ++ behind
+        → several one (length (before ++ xs)) at ≡ Ok (before ++ xs, place + length (written_all (flat_map numbers xs)))
+    several_back each before [] at place behind so may is =
+        let e : place ≡ place + length (written_all []) = omega (arith, ap length written_all-nil) in
+        rw append-nil (so ∙ ap (λ p. Ok (before, p)) e)
+    several_back each before (x ∷ xs) at place behind so (may, mays) is =
+        let here : drop place bytes ≡ written_all (numbers x) ++ (written_all (flat_map numbers xs) ++ behind) = is ∙ rw (written_all-append, append_assoc) refl in
+        let more = several_more one at (length before) place before (x, place + length (written_all (numbers x))) so (each before x place _ may here) in
+        let long : length before + 1 ≡ length (before ++ (x ∷ [])) = omega (arith, length-append before (x ∷ [])) in
+        let rest = rest_of bytes place (written_all (numbers x)) (written_all (flat_map numbers xs) ++ behind) here in
+        let on = several_back each (before ++ (x ∷ [])) xs at (place + length (written_all (numbers x))) behind (rw long at more) mays rest in
+        let end : place + length (written_all (numbers x)) + length (written_all (flat_map numbers xs)) ≡ place + length (written_all (flat_map numbers (x ∷ xs))) =
+        omega (arith, ap length (written_all-append (numbers x) (flat_map numbers xs)), length-append (written_all (numbers x)) (written_all (flat_map numbers xs)))
+        in
+        (rw append_assoc at on) ∙ ap (λ p. Ok (before ++ (x ∷ xs), p)) end
+
+-- ---- numbers
+
+number_at_back : (bytes : List ℕ) (place n : ℕ) (behind : List ℕ) → n < 2 ^ 32 → drop place bytes ≡ written n ++ behind → number_at bytes place ≡ Ok (record { value = n; next = place + length (written n) })
+number_at_back bytes place n behind small is = rw (number_back n place bytes behind small is) refl
+
+number_at_only : (bytes : List ℕ) (place : ℕ) (d : Decoded) → AllByRecursion (λ b. b < 256) bytes → number_at bytes place ≡ Ok d → (d.value < 2 ^ 32) × (drop place bytes ≡ written d.value ++ drop d.next bytes)
+number_at_only bytes place d all is =
+    let o = number_only bytes place d all (mapped (λ (e : NumberFault). e.refusal) (read_number bytes place) d is) in
+    (o.0, o.2)
+
+three_are : (r q m : ℕ) (behind : List ℕ) → written_all (r ∷ q ∷ m ∷ []) ++ behind ≡ written r ++ (written q ++ (written m ++ behind))
+three_are r q m behind = fields_are r q m [] behind ∙ rw written_all-nil refl
+
+-- ---- entries
+
+-- e may stand behind those before it
+record MayStand (n t : ℕ) (before : List Entry) (e : Entry) : Type 0 where
+  fit : fits n t e ≡ true
+  new : is_named e.number.0 before ≡ false
+  mask : e.lost.mask < 2 ^ 32
+
+record Small (n t : ℕ) (e : Entry) : Type 0 where
+  round : e.round.0 < 2 ^ 32
+  number : e.number.0 < 2 ^ 32
+  good_round : bad_round t e.round.0 ≡ false
+  good_number : nat_le n e.number.0 ≡ false
+  good_lost : bad_lost n e.number.0 e.lost ≡ false
+
+small : (n t : ℕ) (e : Entry) → company n t ≡ true → fits n t e ≡ true → Small n t e
+small n t e size fit = record {
+  round = grind (arith, nat_tests);
+  number = grind (arith, nat_tests);
+  good_round = grind (arith, nat_tests);
+  good_number = grind (arith, nat_tests);
+  good_lost = grind (arith, nat_tests);
+}
+
+entry_back : (n t : ℕ) (bytes : List ℕ) → company n t ≡ true → (before : List Entry) (e : Entry) (place : ℕ) (behind : List ℕ) → MayStand n t before e
+    → drop place bytes ≡ written_all (entry_numbers e) ++ behind → entry_at n t bytes before place ≡ Ok (e, place + length (written_all (entry_numbers e)))
+unfolding entry_at
+entry_back n t bytes size before e place behind may is =
+    let s = small n t e size may.fit in
+    let r = e.round.0 in
+    let q = e.number.0 in
+    let m = e.lost.mask in
+    let is₀ = is ∙ three_are r q m behind in
+    let is₁ = rest_of bytes place (written r) _ is₀ in
+    let is₂ = rest_of bytes (place + length (written r)) (written q) _ is₁ in
+    let a = number_at_back bytes place r _ s.round is₀ in
+    let b = number_at_back bytes (place + length (written r)) q _ s.number is₁ in
+    let d = number_at_back bytes (place + length (written r) + length (written q)) m _ may.mask is₂ in
+    let long = ap length (three_are r q m []) in
+    let end : place + length (written r) + length (written q) + length (written m) ≡ place + length (written_all (entry_numbers e)) =
+    omega (arith, long, length-append (written_all (entry_numbers e)) [], length-append (written r) (written q ++ (written m ++ [])), length-append (written q) (written m ++ []), length-append (written m) [])
+    in
+    rw (a, s.good_round, b, s.good_number, may.new, d, s.good_lost) (ap (λ p. Ok (e, p)) end)
+
+entry_only : (n t : ℕ) (bytes : List ℕ) (before : List Entry) (place : ℕ) (e : Entry) (end : ℕ) → AllByRecursion (λ b. b < 256) bytes → EntryRead n t bytes before place e end
+    → (e.lost.mask < 2 ^ 32) × (drop place bytes ≡ written_all (entry_numbers e) ++ drop end bytes)
+entry_only n t bytes before place e end all r =
+    let one = number_at_only bytes place r.round all r.at_round in
+    let two = number_at_only bytes r.round.next r.number all r.at_number in
+    let three = number_at_only bytes r.number.next r.lost all r.at_lost in
+    let chain = one.1 ∙ ap (λ l. written r.round.value ++ l) (two.1 ∙ ap (λ l. written r.number.value ++ l) three.1) ∙ sym (three_are r.round.value r.number.value r.lost.value (drop r.lost.next bytes)) in
+    let mask = ap (λ x. x.lost.mask) r.is in
+    (omega (arith, mask, three.0), chain ∙ ap (λ x. written_all (entry_numbers x) ++ drop r.lost.next bytes) r.is ∙ ap (λ k. written_all (entry_numbers e) ++ drop k bytes) r.behind)
+
+all_push : {X : Type 0} (P : X → Type 0) (xs : List X) (x : X) → AllByRecursion P xs → P x → AllByRecursion P (xs ++ (x ∷ []))
+all_push P [] x all one = (one, tt)
+all_push P (y ∷ xs) x (here, all) one = (here, all_push P xs x all one)
+
+-- the entries of a script may stand one behind the other
+named_at : (q : ℕ) (before : List Entry) (e : Entry) (es : List Entry) → is_named q (before ++ (e ∷ es)) ≡ false → (e.number.0 == q) ≡ false
+named_at q [] e es none = grind (arith, nat_tests)
+named_at q (b ∷ before) e es none = let ih = named_at q before e es in grind (arith, nat_tests)
+
+stands_at : (n t : ℕ) (before : List Entry) (e : Entry) (es : List Entry) → fitting n t (before ++ (e ∷ es)) ≡ true → (fits n t e ≡ true) × (is_named e.number.0 before ≡ false)
+unfolding fitting
+stands_at n t [] e es fit = (grind (arith, nat_tests), refl)
+stands_at n t (b ∷ before) e es fit =
+    let ih = stands_at n t before e es (grind (arith, nat_tests)) in
+    let other = named_at b.number.0 before e es in
+    (ih.0, grind (arith, nat_tests))
+
+entries_may : (n t : ℕ) (before es : List Entry) → fitting n t (before ++ es) ≡ true → AllByRecursion (λ e. e.lost.mask < 2 ^ 32) es
+    → AllMay (MayStand n t) before es
+entries_may n t before [] fit masks = tt
+entries_may n t before (e ∷ es) fit (mask, masks) =
+    let at = stands_at n t before e es fit in
+    (record { fit = at.0; new = at.1; mask = mask }, entries_may n t (before ++ (e ∷ [])) es (rw append_assoc fit) masks)
+
+-- ---- the head
+
+unless_two : {X : Type 0} (a b : Bool) (f e : Refusal) (x y : X) → unless ((a, f) ∷ (b, e) ∷ []) x ≡ Ok y → x ≡ y
+unless_two true b f e x y is = absurd cc
+unless_two false true f e x y is = absurd cc
+unless_two false false f e x y is = cc
+
+head_only : (places : ℕ) (bytes : List ℕ) (h : Head) → AllByRecursion (λ b. b < 256) bytes → read_head places bytes ≡ Ok h → bytes ≡ written h.n ++ (written h.t ++ drop h.next bytes)
+unfolding read_head
+head_only places bytes h all is =
+    let n = next_inv (λ (e : Refusal). e) (number_at bytes 0) _ h is in
+    let t = next_inv (λ (e : Refusal). e) (number_at bytes n.0.next) _ h n.2 in
+    let same : record { n = n.0.value; t = t.0.value; next = t.0.next } ≡ h = unless_two (not (company n.0.value t.0.value)) (nat_lt places n.0.value) Company Row _ h t.2 in
+    let one = number_at_only bytes 0 n.0 all n.1 in
+    let two = number_at_only bytes n.0.next t.0 all t.1 in
+    rw (← same) (one.1 ∙ ap (λ l. written n.0.value ++ l) two.1)
+
+head_back : (places n t : ℕ) (bytes behind : List ℕ) → company n t ≡ true → n ≤ places → bytes ≡ written n ++ (written t ++ behind)
+    → read_head places bytes ≡ Ok (record { n = n; t = t; next = 0 + length (written n) + length (written t) })
+unfolding read_head
+head_back places n t bytes behind size room is =
+    let a = number_at_back bytes 0 n _ (grind (arith, nat_tests)) is in
+    let b = number_at_back bytes (0 + length (written n)) t _ (grind (arith, nat_tests)) (rest_of bytes 0 (written n) _ is) in
+    let enough : nat_lt places n ≡ false = grind (arith, nat_tests) in
+    rw (a, b, size, enough) refl
+
+-- the numbers of a script, one after another
+parts_are : (n t : ℕ) (images : List ℕ) (count : ℕ) (entries behind : List ℕ)
+    → written_all (n ∷ t ∷ (images ++ (count ∷ entries))) ++ behind ≡ written n ++ (written t ++ (written_all images ++ (written count ++ (written_all entries ++ behind))))
+parts_are n t images count entries behind = rw (written_all-cons, written_all-cons, written_all-append, written_all-cons) (simp append_assoc refl)
+
+entries_only : (n t : ℕ) (bytes : List ℕ) (place : ℕ) (es : List Entry × ℕ) → AllByRecursion (λ b. b < 256) bytes → read_entries n t bytes place ≡ Ok es
+    → AllByRecursion (λ e. e.lost.mask < 2 ^ 32) es.0 × (drop place bytes ≡ written (length es.0) ++ (written_all (flat_map entry_numbers es.0) ++ drop es.1 bytes))
+entries_only n t bytes place es all is =
+    let r = entries_read n t bytes place es is in
+    let count = r.0 in
+    let each : (before : List Entry) (at : ℕ) (next : Entry × ℕ) → entry_at n t bytes before at ≡ Ok next → (next.0.lost.mask < 2 ^ 32) × (drop at bytes ≡ written_all (entry_numbers next.0) ++ drop next.1 bytes) =
+    λ before at next read. entry_only n t bytes before at next.0 next.1 all (entry_read n t bytes before at next read)
+    in
+    let masks = several_keeps (entry_at n t bytes) count.next (λ _ xs _. AllByRecursion (λ e. e.lost.mask < 2 ^ 32) xs) tt
+    (λ _ before at next on read. all_push (λ e. e.lost.mask < 2 ^ 32) before next.0 on (each before at next read).0) count.value es r.3
+    in
+    let behind = several_only entry_numbers (entry_at n t bytes) bytes (λ before at next read. (each before at next read).1) count.next count.value es r.3 in
+    let long = several_length (entry_at n t bytes) count.next count.value es r.3 in
+    let one = number_at_only bytes place count all r.1 in
+    (masks, rw long (one.1 ∙ ap (λ l. written count.value ++ l) behind))
+
+entries_back : (n t : ℕ) (bytes : List ℕ) (place : ℕ) (es : List Entry) (behind : List ℕ) → company n t ≡ true → fitting n t es ≡ true → length es ≤ t → AllByRecursion (λ e. e.lost.mask < 2 ^ 32) es
+    → drop place bytes ≡ written (length es) ++ (written_all (flat_map entry_numbers es) ++ behind)
+    → read_entries n t bytes place ≡ Ok (es, place + length (written (length es)) + length (written_all (flat_map entry_numbers es)))
+unfolding read_entries
+entries_back n t bytes place es behind size fit few masks is =
+    let a = number_at_back bytes place (length es) _ (grind (arith, nat_tests)) is in
+    let enough : nat_lt t (length es) ≡ false = grind (arith, nat_tests) in
+    let from = place + length (written (length es)) in
+    let s = several_back entry_numbers (entry_at n t bytes) bytes (MayStand n t) (entry_back n t bytes size) [] es from from behind (several_none (entry_at n t bytes) from) (entries_may n t [] es fit masks) (rest_of bytes place (written (length es)) _ is) in
+    rw (a, enough, s) refl
+
+any_may : {X : Type 0} (before xs : List X) → AllMay (λ _ _. Unit {0}) before xs
+any_may before [] = tt
+any_may before (x ∷ xs) = (tt, any_may (before ++ (x ∷ [])) xs)
+
+module _ {K : Type 0} (size : ℕ) (image : K → List ℕ) (named : List ℕ → Option K) where
+  module _ (only : (ns : List ℕ) (x : K) → named ns ≡ Some x → image x ≡ ns) where
+    image_at : (bytes : List ℕ) (place : ℕ) (next : K × ℕ) → AllByRecursion (λ b. b < 256) bytes → proposal_at size named bytes place ≡ Ok next → drop place bytes ≡ written_all (image next.0) ++ drop next.1 bytes
+    image_at bytes place next all is = proposal_only size image named only bytes place next all (mapped refusal_of (read_proposal size named bytes place) next is)
+
+    parts_only : (places : ℕ) (bytes : List ℕ) (head : Head) (ps : List K × ℕ) (es : List Entry × ℕ) → AllByRecursion (λ b. b < 256) bytes → read_head places bytes ≡ Ok head
+        → several (λ _. proposal_at size named bytes) head.n head.next ≡ Ok ps → read_entries head.n head.t bytes ps.1 ≡ Ok es → length bytes ≤ es.1
+        → Stands places (record { n = head.n; t = head.t; entries = es.0 }) ps.0 × (bytes ≡ written_all (script_numbers image (record { n = head.n; t = head.t; entries = es.0 }) ps.0))
+    parts_only places bytes head ps es all h p q over =
+        let is = head_is places bytes head h in
+        let fit = entries_fit head.n head.t bytes ps.1 es q in
+        let e = entries_only head.n head.t bytes ps.1 es all q in
+        let i = several_only image (λ _. proposal_at size named bytes) bytes (λ _ at next read. image_at bytes at next all read) head.next head.n ps p in
+        let images = flat_map image ps.0 in
+        let numbers = flat_map entry_numbers es.0 in
+        let end = ap (λ l. written (length es.0) ++ (written_all numbers ++ l)) (drop_all es.1 bytes over) in
+        let chain = head_only places bytes head all h ∙ ap (λ l. written head.n ++ (written head.t ++ l)) (i ∙ ap (λ l. written_all images ++ l) (e.1 ∙ end)) in (
+          record { size = is.size; whole = several_length (λ _. proposal_at size named bytes) head.next head.n ps p; room = is.room; few = fit.1; fit = fit.0; masks = e.0 },
+          chain ∙ sym (parts_are head.n head.t images (length es.0) numbers []) ∙ append-nil _,
+        )
+
+    all_only : (places : ℕ) (bytes : List ℕ) (all : Told × List K) → AllByRecursion (λ b. b < 256) bytes → read_script size named places bytes ≡ Ok all
+        → Stands places all.0 all.1 × (bytes ≡ written_all (script_numbers image all.0 all.1))
+    unfolding read_script
+    all_only places bytes all byte is =
+        let head = next_inv (λ (e : Refusal). e) (read_head places bytes) _ all is in
+        let ps = next_inv (λ (e : Refusal). e) (several (λ _. proposal_at size named bytes) head.0.n head.0.next) _ all head.2 in
+        let es = next_inv (λ (e : Refusal). e) (read_entries head.0.n head.0.t bytes ps.0.1) _ all ps.2 in
+        let end = unless_one (nat_lt es.0.1 (length bytes)) Surplus _ all es.2 in
+        rw (← end.1) (parts_only places bytes head.0 ps.0 es.0 byte head.1 ps.1 es.1 (ltb-false es.0.1 (length bytes) end.0))
+
+    pub script_only : ScriptOnly size image named
+    script_only places bytes s ps all is = all_only places bytes (s, ps) all is
+
+  module _ (long : (x : K) → length (image x) ≡ size) (low : (x : K) → AllByRecursion (λ n. n < 268435456) (image x)) (back : (x : K) → named (image x) ≡ Some x) where
+    image_back : (bytes : List ℕ) (x : K) (place : ℕ) (behind : List ℕ) → drop place bytes ≡ written_all (image x) ++ behind → proposal_at size named bytes place ≡ Ok (x, place + length (written_all (image x)))
+    image_back bytes x place behind is = rw (proposal_judged size named bytes (image x) behind place (wide (image x) (low x)) (long x) is, back x) refl
+
+    pub script_back : ScriptBack size image named
+    script_back places s ps st =
+        let bytes = written_all (script_numbers image s ps) in
+        let images = flat_map image ps in
+        let numbers = flat_map entry_numbers s.entries in
+        let is₀ = sym (append-nil bytes) ∙ parts_are s.n s.t images (length s.entries) numbers [] in
+        let is₁ = rest_of bytes 0 (written s.n) _ is₀ in
+        let is₂ = rest_of bytes (0 + length (written s.n)) (written s.t) _ is₁ in
+        let from = 0 + length (written s.n) + length (written s.t) in
+        let is₃ = rest_of bytes from (written_all images) _ is₂ in
+        let is₄ = rest_of bytes (from + length (written_all images)) (written (length s.entries)) _ is₃ in
+        let end = from + length (written_all images) + length (written (length s.entries)) + length (written_all numbers) in
+        let none : drop end bytes ≡ [] = rest_of bytes (from + length (written_all images) + length (written (length s.entries))) (written_all numbers) [] is₄ in
+        let over : length bytes ≤ end = omega (arith, ap length none, length-drop end bytes) in
+        let h = head_back places s.n s.t bytes _ st.size st.room is₀ in
+        let one = λ (_ : List K). proposal_at size named bytes in
+        let p = several_back image one bytes (λ _ _. Unit {0}) (λ _ x place behind _ is. image_back bytes x place behind is) [] ps from from _ (several_none one from) (any_may [] ps) is₂ in
+        let q = entries_back s.n s.t bytes (from + length (written_all images)) s.entries [] st.size st.fit st.few st.masks is₃ in
+        script_is size named places bytes _ h ps _ (rw st.whole at p) s.entries end q over
