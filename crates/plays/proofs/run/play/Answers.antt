@@ -15,7 +15,7 @@ play_rounds-requires-clause-in_time g c =
     let m = g.W.Wire.meaning c.args.wire in
     let r = c.in_ok-ringing.ringing in
     let s = told c.args.script.now in
-    let made = made_for c.args.wire s.n s.t c.n.result c.t.result m (length c.args.row.now) c.args.proposals.now (state (g.W.Wire.meaning r.wire) r.t r.closed c.make.new.row) c.n.ensures c.t.ensures c.in_ok-ringing.ensures.ringing in
+    let made = made_for c.args.wire s.n s.t _ _ m (length c.args.row.now) c.args.proposals.now (state (g.W.Wire.meaning r.wire) r.t r.closed c.make.new.row) (let e = c.n.ensures in cc) (let e = c.t.ensures in cc) c.in_ok-ringing.ensures.ringing in
     time k.leads k.image c.plays_stand.ensures.plays s (proper c.args.script.now) c.args.proposals.now (length c.args.row.now) m _ (g.met.W.Wire.formed c.args.wire) made
 
 pub play_rounds-requires-clause-goes : goal.play_rounds-requires-clause-goes
@@ -24,7 +24,7 @@ play_rounds-requires-clause-goes g c =
     let m = g.W.Wire.meaning c.args.wire in
     let r = c.in_ok-ringing.ringing in
     let s = told c.args.script.now in
-    let made = made_for c.args.wire s.n s.t c.n.result c.t.result m (length c.args.row.now) c.args.proposals.now (state (g.W.Wire.meaning r.wire) r.t r.closed c.make.new.row) c.n.ensures c.t.ensures c.in_ok-ringing.ensures.ringing in
+    let made = made_for c.args.wire s.n s.t _ _ m (length c.args.row.now) c.args.proposals.now (state (g.W.Wire.meaning r.wire) r.t r.closed c.make.new.row) (let e = c.n.ensures in cc) (let e = c.t.ensures in cc) c.in_ok-ringing.ensures.ringing in
     goes k.leads k.image c.plays_stand.ensures.plays s (proper c.args.script.now) c.args.proposals.now (length c.args.row.now) m _ (g.met.W.Wire.formed c.args.wire) made
 
 pub returns-clause-played : goal.returns-clause-played
@@ -33,7 +33,7 @@ returns-clause-played g c past_end =
     let m = g.W.Wire.meaning c.args.wire in
     let r = c.in_ok-ringing.ringing in
     let s = told c.args.script.now in
-    let made = made_for c.args.wire s.n s.t c.n.result c.t.result m (length c.args.row.now) c.args.proposals.now (state (g.W.Wire.meaning r.wire) r.t r.closed c.make.new.row) c.n.ensures c.t.ensures c.in_ok-ringing.ensures.ringing in
+    let made = made_for c.args.wire s.n s.t _ _ m (length c.args.row.now) c.args.proposals.now (state (g.W.Wire.meaning r.wire) r.t r.closed c.make.new.row) (let e = c.n.ensures in cc) (let e = c.t.ensures in cc) c.in_ok-ringing.ensures.ringing in
     played k.leads k.image c.plays_stand.ensures.plays s (proper c.args.script.now) c.args.proposals.now (length c.args.row.now) m _ (g.met.W.Wire.formed c.args.wire) made (λ e. (c.args.wire, e)) past_end _ c.play_rounds.ensures
 
 pub returns-clause-rings : goal.returns-clause-rings

@@ -25,8 +25,8 @@ tell_falls-requires g c =
     let k = g.K.Kind in
     let r = c.args.ringing.now in
     let l = c.loop-closed in
-    falls_accepted k.leads k.image (told c.args.script.now) (state (g.W.Wire.meaning r.wire) r.t r.closed c.args.row.now) c.requires.goes l.closed (l.closed + 1) (omega arith) l.invariant.early c.entries.result.now
-    (state (g.W.Wire.meaning l.ringing.wire) l.ringing.t l.ringing.closed l.row) c.entries.ensures l.invariant.is
+    falls_accepted k.leads k.image (told c.args.script.now) (state (g.W.Wire.meaning r.wire) r.t r.closed c.args.row.now) c.requires.goes l.closed _ (omega arith) l.invariant.early _ _
+    (let e = c.entries.ensures in cc) l.invariant.is
 
 pub unwrap-requires : goal.unwrap-requires
 unwrap-requires g c =

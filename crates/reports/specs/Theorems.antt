@@ -1,0 +1,44 @@
+-- How long a report and the line of a refusal can be, and worked examples of both. Assumes nothing.
+use Rattle.std.specs.Prelude.{◌≡◌, ⊤, ℕ, ◌<◌, ◌≤◌, List, [], ◌∷◌, length, codes}
+use Rattle.std.specs.List.{AllByRecursion}
+use Rattle.numbers.specs.declared.refusal.Refusal.{Refusal}
+use Rattle.numbers.specs.declared.refusal.Refusal.TheVariants.{Silent}
+use Rattle.sets.specs.Companies.{most_company}
+use Rattle.boxes.specs.declared.states.Held.{Held}
+use Rattle.rows.specs.declared.place.Blow.TheVariants as blow
+use Rattle.rows.specs.Places.{Stand, at_rest, down, rung}
+use Rattle.reports.specs.Reports.{refusal_line, report_text}
+
+-- the most bytes of a report in which every round has at most two digits: 32 lines with two digits of the box, six of the word, two of the
+-- round and nine of each of four numbers, a space before each but the first, and the end of the line
+abbrev pub longest_report : ℕ
+longest_report = 1696
+
+-- the most bytes of the line of a refusal
+abbrev pub longest_refusal : ℕ
+longest_refusal = 11
+
+-- the round that is told of it, if one is, is below 100
+abbrev pub IsEarly : {K : Type 0} → Stand K → Type 0
+IsEarly (at_rest b) = ⊤
+IsEarly (down r) = r.0 < 100
+IsEarly (rung x) = x.round.0 < 100
+
+-- a report of a company's boxes has no more bytes, if every round in it is below 100
+abbrev pub ReportLength : {K : Type 0} → (K → List ℕ) → Type 0
+ReportLength {K} image = (row : List (Stand K)) → length row ≤ most_company → AllByRecursion IsEarly row
+    → length (report_text image row) ≤ longest_report
+
+abbrev pub RefusalLength : Type 0
+RefusalLength = (e : Refusal) → length (refusal_line e) ≤ longest_refusal
+
+-- a box that rings in round 3 on this number
+abbrev rings : ℕ → Stand ℕ
+rings v = rung (record { round = record { 0 = 3 }; proposal = v; blow = blow.Rings })
+
+-- boxes that propose a number each: two reports, and the line of a refusal
+abbrev pub Examples : Type 0
+Examples =
+    ((b : Held ℕ) → report_text (λ v. v ∷ []) (at_rest b ∷ at_rest b ∷ down (record { 0 = 1 }) ∷ at_rest b ∷ []) ≡ codes "0 up\n1 up\n2 down 1\n3 up\n")
+    × (report_text (λ v. v ∷ []) (rings 20 ∷ rings 20 ∷ down (record { 0 = 1 }) ∷ rings 20 ∷ []) ≡ codes "0 rings 3 20\n1 rings 3 20\n2 down 1\n3 rings 3 20\n")
+    × (refusal_line Silent ≡ codes "refused 17\n")

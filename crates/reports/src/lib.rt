@@ -1,0 +1,9 @@
+// What is told of a ringing in bytes: a report with a line for each box, and the line of a refusal.
+#![tactic(auto)]
+
+mod report;
+mod text;
+mod theorems;
+
+pub use report::{LONGEST_REFUSAL, LONGEST_REPORT, write_refusal, write_report};
+pub use theorems::reports_stand;

@@ -1,0 +1,45 @@
+// Reports and lines of refusals, written into bytes that are given. Answer and bytes are two facts, and each has a clause.
+ghost use Rattle.std.specs.Prelude.{◌≡◌, length};
+ghost use Rattle.numbers.specs.Numbers.{fronted, room_for};
+ghost use Rattle.ringing.specs.States.{state};
+ghost use Rattle.reports.specs.Reports.{refusal_line, reporting, told, laid};
+
+use super::text::{put, refusal_text, report_text};
+use kinds::Kind;
+use numbers::Refusal;
+use ringing::Ringing;
+use rows::{Place, is_over};
+use sets::BoxNumber;
+use wire::Wire;
+
+// The most bytes of a report in which every round is below 100.
+pub const LONGEST_REPORT: usize = 1696;
+
+// The most bytes of the line of a refusal.
+pub const LONGEST_REFUSAL: usize = 11;
+
+// Writes the report to the front of `out` and tells its length: for each box in order a line with its number, the word for what is told of it,
+// the round if there is one, and the numbers of its proposal if it rings. Where it is refused, nothing is touched. Asking
+// judges the row, whichever box is asked of.
+pub fn write_report<W: Wire, K: Kind>(
+    ringing: &Ringing<W>,
+    row: &[Place<K>],
+    out: &mut [u8],
+) -> Result<usize, Refusal>
+    ensures told { let s = state (W.meaning ringing.now.wire) ringing.now.t ringing.now.closed row.now in result ≡ told (reporting K.image (length out.old) s) }
+    ensures bytes { let s = state (W.meaning ringing.now.wire) ringing.now.t ringing.now.closed row.now in out.new ≡ laid out.old (reporting K.image (length out.old) s) }
+{
+    ringing.ask(row, BoxNumber(0))?;
+    if !is_over(row) {
+        return Err(Refusal::Silent);
+    }
+    put(&report_text(row), out)
+}
+
+// Writes the line of a refusal to the front of `out` and tells its length; where there is too little room, nothing is touched.
+pub fn write_refusal(refusal: Refusal, out: &mut [u8]) -> Result<usize, Refusal>
+    ensures told { result ≡ room_for (refusal_line refusal) out.old }
+    ensures bytes { out.new ≡ fronted (refusal_line refusal) out.old }
+{
+    put(&refusal_text(refusal), out)
+}

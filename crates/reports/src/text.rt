@@ -1,0 +1,114 @@
+// The bytes of a report and of a refusal's line, as they are gathered. Below 2^32, a number has ten digits at most.
+ghost use Rattle.std.specs.Prelude.{◌≡◌, ◌+◌, ◌≤◌, ◌++◌, length, map, codes, decimal};
+ghost use Rattle.numbers.specs.Numbers.{fronted, room_for};
+ghost use Rattle.sets.specs.Companies.{most_company};
+ghost use Rattle.rows.specs.Places.{shown};
+ghost use Rattle.reports.specs.Reports.{spaced, told_numbers, line, report_text, refusal_line};
+
+use arrayvec::ArrayVec;
+use itoa::Buffer;
+use kinds::Kind;
+use numbers::Refusal;
+use rows::{Place, Standing};
+use sets::{BoxNumber, MOST_COMPANY};
+
+// Room for a line: number, word, round and four numbers of an image, a space before each but the first, and the end.
+const LINE_ROOM: usize = 10 + 7 + 11 + 4 * 11 + 1;
+
+const REPORT_ROOM: usize = MOST_COMPANY as usize * LINE_ROOM;
+
+// Appends a space and the number.
+fn push_spaced<const N: usize>(text: &mut ArrayVec<u8, N>, n: u32)
+    requires { length text.old.items + 11 ≤ N }
+    ensures items { text.new.items ≡ text.old.items ++ (codes " " ++ decimal n) }
+    ensures len { length text.new.items ≤ length text.old.items + 11 }
+{
+    text.push(b' ');
+    text.try_extend_from_slice(Buffer::new().format(n).as_bytes())
+        .unwrap();
+}
+
+// Appends the numbers of the image.
+#[tactic(auto, using(crate::proofs::Lines::tells))]
+fn push_image<K: Kind, const N: usize>(text: &mut ArrayVec<u8, N>, proposal: K)
+    requires { length text.old.items + 44 ≤ N }
+    ensures items { text.new.items ≡ text.old.items ++ spaced (K.image proposal) }
+    ensures len { length text.new.items ≤ length text.old.items + 44 }
+{
+    for i in 0..K::SIZE {
+        push_spaced(text, proposal.image_number(i));
+    }
+}
+
+// Appends the numbers that are told behind the word.
+#[tactic(auto, using(crate::proofs::Lines::tells))]
+fn push_told<K: Kind, const N: usize>(text: &mut ArrayVec<u8, N>, standing: Standing<K>)
+    requires { length text.old.items + 55 ≤ N }
+    ensures items { text.new.items ≡ text.old.items ++ spaced (told_numbers K.image standing) }
+    ensures len { length text.new.items ≤ length text.old.items + 55 }
+{
+    match standing {
+        Standing::Up => {}
+        Standing::Down(round) => push_spaced(text, round.0),
+        Standing::Rung(rung) => {
+            push_spaced(text, rung.round.0);
+            push_image(text, rung.proposal);
+        }
+    }
+}
+
+// The line of box p.
+#[tactic(auto, unfolding(crate::specs::Reports::line))]
+fn line<K: Kind>(p: BoxNumber, standing: Standing<K>) -> ArrayVec<u8, LINE_ROOM>
+    ensures { result.items ≡ line K.image p.0 standing }
+{
+    let mut line = ArrayVec::new();
+    line.try_extend_from_slice(Buffer::new().format(p.0).as_bytes())
+        .unwrap();
+    line.push(b' ');
+    line.try_extend_from_slice(standing.word().as_bytes())
+        .unwrap();
+    push_told(&mut line, standing);
+    line.push(b'\n');
+    line
+}
+
+// The lines of all places of a row.
+#[tactic(auto, using(crate::proofs::Lines::tells))]
+pub(crate) fn report_text<K: Kind>(row: &[Place<K>]) -> ArrayVec<u8, REPORT_ROOM>
+    requires { length row.now ≤ most_company }
+    ensures { result.items ≡ report_text K.image (map shown row.now) }
+{
+    let mut text = ArrayVec::new();
+    for (p, place) in row.iter().enumerate() {
+        let line = line(BoxNumber(p as u32), place.standing());
+        text.try_extend_from_slice(&line).unwrap();
+    }
+    text
+}
+
+// The line of a refusal; as a byte, its number has three digits at most.
+#[tactic(auto, unfolding(crate::specs::Reports::refusal_line))]
+pub(crate) fn refusal_text(refusal: Refusal) -> ArrayVec<u8, 12>
+    ensures { result.items ≡ refusal_line refusal }
+{
+    let mut text = ArrayVec::new();
+    text.try_extend_from_slice(b"refused ").unwrap();
+    text.try_extend_from_slice(Buffer::new().format(refusal.number()).as_bytes())
+        .unwrap();
+    text.push(b'\n');
+    text
+}
+
+// Puts the text at the front of `out` and tells its length; where there is too little room, nothing is touched.
+pub(crate) fn put(text: &[u8], out: &mut [u8]) -> Result<usize, Refusal>
+    ensures told { result ≡ room_for text.now out.old }
+    ensures bytes { out.new ≡ fronted text.now out.old }
+{
+    let len = text.len();
+    if out.len() < len {
+        return Err(Refusal::Narrow);
+    }
+    out[..len].copy_from_slice(text);
+    Ok(len)
+}
