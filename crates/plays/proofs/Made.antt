@@ -11,7 +11,7 @@ use Rattle.runs.specs.Runs.{state_after, state_by}
 use Rattle.scripts.specs.declared.script.Script.{Script}
 use Rattle.scripts.specs.Scripts.{Told, told}
 use Rattle.plays.specs.Plays.{calls_to, ring_round, history_of, script_played}
-use Rattle.plays.specs.Theorems.{Proper, CallsGo, ScriptPlays}
+use Rattle.plays.specs.Theorems.{Proper, CallsGo, GoesTo, ScriptPlays}
 
 -- every script of this type is one that its reader lets through
 pub proper : (s : Script) → Proper (told s)
@@ -40,11 +40,13 @@ module _ {K : Type 0} (leads : K → K → Bool) (image : K → List ℕ) (plays
   pub time : (1 ≤ ring_round s) × (ring_round s ≤ s.t + 1)
   time = (plays s p proposals some).0.in_time
 
-  pub goes : CallsGo leads image s first
-  goes = ((plays s p proposals some).2 places m first formed made).0
+  pub goes : (past_end : K) → GoesTo leads image m.posted s (history_of s proposals past_end) first
+  goes past_end = (plays s p proposals past_end).2 places m first formed made
+
+  pub calls_go : CallsGo leads image s first
+  calls_go = (goes some).0
 
   pub played : {E : Type 0} (f : Refusal → E) (past_end : K) (end : State K) → end ≡ state_after leads image (calls_to s.entries (ring_round s)) first
       → Ok end ≡ map_fault f (script_played leads image s m places proposals past_end)
   played f past_end end is =
-      let e = ((plays s p proposals past_end).2 places m first formed made).1 in
-      ap Ok (is ∙ e) ∙ ap (λ r. map_fault f (result_map_both (λ _. state_by leads (history_of s proposals past_end) image m.posted) (λ x. x) r)) (sym made)
+      ap Ok (is ∙ (goes past_end).1) ∙ ap (λ r. map_fault f (result_map_both (λ _. state_by leads (history_of s proposals past_end) image m.posted) (λ x. x) r)) (sym made)

@@ -187,6 +187,7 @@ module _ {K : Type 0} (leads : K → K → Bool) (image : K → List ℕ) (agree
               let one = e.one in
               let some = any_from (λ q. closes h.falls q h.closed && rule.rings h q h.closed) s.n one.0 one.1.0 (let a = one.1.1 in let b = one.1.2 in grind arith) in
               over_where_refused leads image (at (ring_round s)) f.good (grind (arith, nat_tests));
+          good = f.good;
         },
         f.is,
       )

@@ -1,5 +1,5 @@
 -- What playing a script comes to. Assumes nothing.
-use Rattle.std.specs.Prelude.{◌≡◌, ℕ, ◌+◌, ◌<◌, ◌≤◌, Bool, true, false, List, length, Some, None, Ok}
+use Rattle.std.specs.Prelude.{◌≡◌, ℕ, ◌+◌, ◌<◌, ◌≤◌, Bool, true, false, Option, List, length, Some, None, Ok}
 use Rattle.std.specs.List.{slice_get}
 use Rattle.sets.specs.Companies.{company}
 use Rattle.wire.specs.Meaning.{Meaning, WellFormed}
@@ -10,7 +10,7 @@ use Rattle.rule.specs.Values.{estimate}
 use Rattle.rule.specs.Theorems.{RingsIn, QuietBefore, RingsOnOne, RingsOnProposal, RingsOnFirst}
 use Rattle.rows.specs.declared.place.Blow.TheVariants.{Rings}
 use Rattle.rows.specs.Places.{down, rung}
-use Rattle.rows.specs.Calls.{State, making, over}
+use Rattle.rows.specs.Calls.{State, making, bad_row, over}
 use Rattle.runs.specs.Runs.{state_after, all_accepted, row_by, state_by}
 use Rattle.scripts.specs.Entries.{fitting}
 use Rattle.scripts.specs.Scripts.{Told}
@@ -40,11 +40,16 @@ AllRing leads h = (p : ℕ) → p < h.n
     → ((f : Fall) → h.falls p ≡ Some f → slice_get (row_by leads h) p ≡ Some (down f.round))
     × (h.falls p ≡ None → slice_get (row_by leads h) p ≡ Some (rung (record { round = record { 0 = h.closed }; proposal = estimate h leads p h.closed; blow = Rings })))
 
--- played from this state on, each call is accepted, and the boxes ring after the last round and not before
+-- played from this state on, each call is accepted, the boxes ring after the last round and not before, and the row is not refused then
 pub record CallsGo {K : Type 0} (leads : K → K → Bool) (image : K → List ℕ) (s : Told) (first : State K) : Type 0 where
   pub accepted : all_accepted leads image (calls_to s.entries (ring_round s)) first ≡ true
   pub still : (r : ℕ) → r < ring_round s → over (state_after leads image (calls_to s.entries r) first) ≡ false
   pub rings : over (state_after leads image (calls_to s.entries (ring_round s)) first) ≡ true
+  pub good : bad_row (state_after leads image (calls_to s.entries (ring_round s)) first) ≡ false
+
+-- and they lead to the state of a history
+abbrev pub GoesTo : {K : Type 0} → (K → K → Bool) → (K → List ℕ) → (ℕ → Option (List ℕ)) → Told → History K → State K → Type 0
+GoesTo leads image unopened s h first = CallsGo leads image s first × (state_after leads image (calls_to s.entries (ring_round s)) first ≡ state_by leads h image unopened)
 
 -- every script, with these proposals, is played so over every wire, from the making on; then the ringing and its row are those of the rule, by which
 -- all ring
@@ -53,4 +58,4 @@ ScriptPlays {K} leads image = (s : Told) → Proper s → (proposals : List K) (
     → let h = history_of s proposals past_end in
     EndsRinging leads h × AllRing leads h
     × ((places : ℕ) (m : Meaning) (first : State K) → WellFormed m → making s.n s.t m places proposals ≡ Ok first
-    → CallsGo leads image s first × (state_after leads image (calls_to s.entries (ring_round s)) first ≡ state_by leads h image m.posted))
+    → GoesTo leads image m.posted s h first)

@@ -8,7 +8,7 @@ ghost use Rattle.runs.specs.Runs.{state_after, all_accepted};
 ghost use Rattle.ringing.specs.States.{state};
 ghost use Rattle.scripts.specs.Scripts.{told};
 ghost use Rattle.plays.specs.Plays.{told_before, calls_to, ring_round, history_of, script_played};
-ghost use Rattle.plays.specs.Theorems.{EndsRinging, AllRing, CallsGo};
+ghost use Rattle.plays.specs.Theorems.{EndsRinging, AllRing, CallsGo, GoesTo};
 
 use super::theorems::plays_stand;
 use frames::LONGEST_FRAME;
@@ -65,7 +65,7 @@ pub fn play<W: Wire, K: Kind>(
     ensures played { (past_end : K) → result_map_both (λ r. state (W.meaning r.wire) r.t r.closed row.new) (λ e. e) result ≡ map_fault (λ e. (wire, e)) (script_played K.leads K.image (told script.now) (W.meaning wire) (length row.old) proposals.now past_end) }
     ensures refused { OnErr result (row.new ≡ row.old) }
     ensures rings { (past_end : K) → let h = history_of (told script.now) proposals.now past_end in EndsRinging K.leads h × AllRing K.leads h }
-    ensures goes { IfOk (making script.now.n script.now.t (W.meaning wire) (length row.old) proposals.now) (λ first. CallsGo K.leads K.image (told script.now) first) }
+    ensures goes { (past_end : K) → IfOk (making script.now.n script.now.t (W.meaning wire) (length row.old) proposals.now) (λ first. GoesTo K.leads K.image (W.meaning wire).posted (told script.now) (history_of (told script.now) proposals.now past_end) first) }
 {
     let _ = plays_stand::<K>();
     let mut ringing = Ringing::make(script.n(), script.t(), wire, row, proposals)?;
