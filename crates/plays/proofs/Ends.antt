@@ -5,7 +5,7 @@ use Rattle.std.proofs.Math.Decide.{le_ind}
 use Rattle.std.proofs.lemmas.Bool.{cases_lt}
 use Rattle.std.proofs.lemmas.Bool.Decides.{nat_tests}
 use Rattle.rule.specs.declared.falls.Fall.{Fall}
-use Rattle.rule.specs.Falls.{fell_before, so_far, lasts, past, closes, waste}
+use Rattle.rule.specs.Falls.{lasts, past, closes, waste}
 use Rattle.rule.specs.Histories.{History, Allowed, ringing_round}
 use Rattle.rule.specs.Values as rule
 use Rattle.rule.specs.Boxes.{outcome_of}
@@ -18,7 +18,7 @@ use Rattle.runs.proofs.Same.{rings_same}
 use Rattle.scripts.specs.Scripts.{Told}
 use Rattle.plays.specs.Plays.{falls_of, ring_round}
 use Rattle.plays.specs.Theorems.{Proper, EndsRinging, AllRing}
-use Rattle.plays.proofs.Entries.{history_to, history_all, all_allowed, to_allowed}
+use Rattle.plays.proofs.Entries.{so_far_before, history_to, history_all, all_allowed, to_allowed}
 
 module _ {K : Type 0} (leads : K → K → Bool) (agree : (h : History K) → Agreement h leads) (remains : (h : History K) → Allowed h → SomeRemains h)
     (only_past : (h : History K) → OnlyPast h leads) (s : Told) (p : Proper s) (proposals : ℕ → K) where
@@ -92,18 +92,10 @@ module _ {K : Type 0} (leads : K → K → Bool) (agree : (h : History K) → Ag
   place_is : (q : ℕ) → q < s.n → slice_get (row_by leads h) q ≡ Some (stand_by leads h q)
   place_is q m = at_place leads h p.size q ∙ ap (λ b. cond b (Some (stand_by leads h q)) None) (let k : ltb q s.n ≡ true = grind (arith, nat_tests) in k)
 
-  -- a fall that is among those so far is one of a round up to then
-  so_far_before : (o : Option Fall) (f : Fall) → so_far R o ≡ Some f → leb f.round.0 R ≡ true
-  so_far_before o f e = by (fell_before o (suc R)) refl e
-    where
-      by : (b : Bool) → fell_before o (suc R) ≡ b → cond b o None ≡ Some f → leb f.round.0 R ≡ true
-      by true is at = let k : fell_before (Some f) (suc R) ≡ true = ap (λ x. fell_before x (suc R)) (sym at) ∙ is in grind (arith, nat_tests)
-      by false is at = absurd (grind arith)
-
   down_at : (q : ℕ) (f : Fall) → h.falls q ≡ Some f → stand_by leads h q ≡ down f.round
   down_at q f e =
       ap (λ o. stood o R (outcome_of h leads q R)) e
-      ∙ ap (λ b. cond b (down f.round) (stand_of (outcome_of h leads q R))) (so_far_before (falls_of s.entries q) f e)
+      ∙ ap (λ b. cond b (down f.round) (stand_of (outcome_of h leads q R))) (let l = so_far_before R (falls_of s.entries q) f e in let k : leb f.round.0 R ≡ true = grind (arith, nat_tests) in k)
 
   closes_at : (q : ℕ) → h.falls q ≡ None → closes h.falls q R ≡ true
   unfolding closes

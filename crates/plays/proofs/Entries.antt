@@ -1,5 +1,5 @@
 -- The falls that entries tell. Assumes nothing.
-use Rattle.std.proofs.Common.{◌≡◌, ℕ, suc, ◌<◌, ◌≤◌, Bool, true, false, cond, ◌||◌, eqb, List, [], ◌∷◌, length, is_some, Some, None, Option, refl, ap, ◌∙◌, arith}
+use Rattle.std.proofs.Common.{sym, ◌≡◌, ℕ, suc, ◌<◌, ◌≤◌, Bool, true, false, cond, ◌||◌, eqb, List, [], ◌∷◌, length, is_some, Some, None, Option, refl, ap, ◌∙◌, arith}
 use Rattle.std.proofs.lemmas.Bool.Decides.{nat_tests}
 use Rattle.sets.specs.Companies.{bad_lost}
 use Rattle.sets.specs.Tests.{count}
@@ -94,6 +94,14 @@ so_far_some s o is = by (fell_before o (suc s)) is
     by : (b : Bool) → is_some (cond b o None) ≡ true → is_some o ≡ true
     by true e = e
     by false e = absurd (grind arith)
+
+-- and of a round up to then
+pub so_far_before : (s : ℕ) (o : Option Fall) (f : Fall) → so_far s o ≡ Some f → f.round.0 ≤ s
+so_far_before s o f e = by (fell_before o (suc s)) refl e
+  where
+    by : (b : Bool) → fell_before o (suc s) ≡ b → cond b o None ≡ Some f → f.round.0 ≤ s
+    by true is at = let k : fell_before (Some f) (suc s) ≡ true = ap (λ x. fell_before x (suc s)) (sym at) ∙ is in grind (arith, nat_tests)
+    by false is at = absurd (grind arith)
 
 so_far_dated : (s : ℕ) (o : Option Fall) → fell_before o 1 ≡ false → fell_before (so_far s o) 1 ≡ false
 so_far_dated s o is = by (fell_before o (suc s))

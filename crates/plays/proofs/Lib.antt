@@ -5,3 +5,4 @@ mod Playing
 mod Calls
 mod Rounds
 mod Made
+mod Reported

@@ -12,12 +12,13 @@ ghost use Rattle.plays.specs.Plays.{history_of};
 ghost use Rattle.plays.specs.Answers.{script_report, answer_text};
 
 use super::run::play;
+use super::theorems::plays_stand;
 use kinds::Piece;
 use numbers::Refusal;
-use reports::{LONGEST_REPORT, write_refusal, write_report};
+use reports::{LONGEST_REPORT, reports_stand, write_refusal, write_report};
 use ringing::Ringing;
-use rows::Place;
-use scripts::{Script, read_script};
+use rows::{Place, rows_stand};
+use scripts::{Script, read_script, scripts_stand};
 use sets::{MOST_COMPANY, RoundNumber};
 use wire::Board;
 
@@ -34,6 +35,7 @@ fn play_on_board(
     requires row { length row.old ≡ script.now.n }
     ensures { (past_end : Piece) → result_map_both (λ r. state (board_meaning r.wire) r.t r.closed row.new) (λ e. e) result ≡ Ok (state_by piece_leads (history_of (told script.now) pieces.now past_end) piece_image (λ _. None)) }
 {
+    let _ = rows_stand::<Piece>();
     let board = Board::new(script.n())?;
     match play(script, pieces, board, row) {
         Ok(ringing) => Ok(ringing),
@@ -47,6 +49,10 @@ fn write_script_report(bytes: &[u8], out: &mut [u8]) -> Result<usize, Refusal>
     ensures told { (past_end : Piece) → result ≡ result_map_both length (λ e. e) (script_report piece_leads piece_image 1 piece_named bytes.now past_end) }
     ensures bytes { (past_end : Piece) → out.new ≡ laid out.old (script_report piece_leads piece_image 1 piece_named bytes.now past_end) }
 {
+    let _ = scripts_stand::<Piece>();
+    let _ = rows_stand::<Piece>();
+    let _ = plays_stand::<Piece>();
+    let _ = reports_stand::<Piece>();
     let mut pieces = [Piece::new(0)?; PLACES];
     let mut places = [Place::Down(RoundNumber(0)); PLACES];
     let script = read_script(bytes, &mut pieces)?;
