@@ -1,28 +1,32 @@
 -- The report of a script that is played on a new wire. Assumes nothing.
-use Rattle.std.proofs.Common.{◌≡◌, ℕ, zero, suc, ◌+◌, ◌^◌, ◌<◌, ◌≤◌, Bool, true, false, ltb, List, [], ◌∷◌, length, Some, None, Option, Ok, Err, Result, sym, refl, ap, ◌∙◌, subst, arith}
+use Rattle.std.proofs.Common.{◌≡◌, ℕ, suc, ◌<◌, ◌≤◌, Bool, true, false, cond, leb, ltb, List, [], ◌∷◌, length, take, drop, get_or, Fits, w8, Some, None, Option, Ok, Err, Result, sym, refl, ap, ◌∙◌, subst, arith}
 use Rattle.std.specs.List.{slice_get, AllByRecursion}
-use Rattle.std.specs.Result.{result_map_both}
+use Rattle.std.specs.Result.{result_map_both, IsOk}
 use Rattle.std.proofs.lemmas.Bool.Decides.{nat_tests}
-use Rattle.std.proofs.lemmas.Option.{slice_get_within}
+use Rattle.std.proofs.lemmas.List.{take_at}
+use Rattle.std.proofs.lemmas.Option.{slice_get_within, get_or_from_slice_get}
 use Rattle.numbers.specs.declared.refusal.Refusal.{Refusal}
+use Rattle.numbers.specs.declared.refusal.Refusal.TheVariants.{Narrow}
+use Rattle.numbers.specs.Numbers.{room_for}
 use Rattle.sets.specs.Companies.{company}
-use Rattle.sets.specs.Masks.{member, set_of}
+use Rattle.sets.specs.Masks.{member}
 use Rattle.sets.proofs.Members.{member_is, all_within}
 use Rattle.frames.specs.Faults.{map_fault}
 use Rattle.wire.specs.Meaning as wire
 use Rattle.wire.specs.Meaning.{Meaning, WellFormed, fresh}
 use Rattle.rule.specs.declared.falls.Fall.{Fall}
 use Rattle.rule.specs.Histories.{History}
-use Rattle.rows.specs.Places.{Stand, down, rung}
+use Rattle.rows.specs.Places.{Stand}
 use Rattle.rows.specs.Calls.{State, making, first_row, bad_row, over}
 use Rattle.rows.specs.Theorems.{MakeAccepted}
 use Rattle.runs.specs.Runs.{row_by, state_by}
 use Rattle.runs.proofs.Pictured.{row_length}
 use Rattle.scripts.specs.Scripts.{Told}
+use Rattle.scripts.specs.Reading.{filled}
 use Rattle.reports.specs.Reports.{report_text, reporting}
 use Rattle.reports.specs.Theorems.{longest_report, IsEarly, ReportLength}
 use Rattle.plays.specs.Plays.{falls_of, ring_round, history_of, script_played}
-use Rattle.plays.specs.Theorems.{Proper, EndsRinging, AllRing, ScriptPlays}
+use Rattle.plays.specs.Theorems.{Proper, ScriptPlays}
 use Rattle.plays.proofs.Entries.{so_far_before}
 
 -- ---- a new wire
@@ -114,3 +118,30 @@ module _ {K : Type 0} (leads : K → K → Bool) (image : K → List ℕ) (accep
       pub reported : ReportLength image → (room : ℕ) → longest_report ≤ room → reporting image room end ≡ Ok (report_text image (row_by leads h))
       unfolding reporting
       reported shorter room enough = let r = rests in let l = short shorter in grind (arith, nat_tests)
+
+-- ---- what was read
+
+pub bytes_small : (bytes : List ℕ) → ((i : ℕ) → Fits w8 (get_or bytes i 0)) → AllByRecursion (λ b. b < 256) bytes
+bytes_small bytes fits = all_at (λ b. b < 256) bytes (λ p x at. let e = get_or_from_slice_get bytes p x 0 at in omega (arith, fits p))
+
+-- the places of the proposals
+pub laid_first : {K : Type 0} (r : Result (Told × List K) Refusal) (s : Told) (ps old new : List K) (n : ℕ) → r ≡ Ok (s, ps) → new ≡ filled r old → length ps ≡ n → take n new ≡ ps
+laid_first r s ps old new n is laid long = ap (take n) (laid ∙ ap (λ x. filled x old) is) ∙ take_at ps (drop (length ps) old) n long
+
+pub ok_same : {X E : Type 0} (x y : X) → ◌≡◌ {A = Result X E} (Ok x) (Ok y) → x ≡ y
+ok_same x y e = cc
+
+pub read_ok : {K : Type 0} (r : Result (Told × List K) Refusal) (s : Told) → Ok s ≡ result_map_both (λ x. x.0) (λ e. e) r → (ps : List K) × (r ≡ Ok (s, ps))
+read_ok (Ok x) s is = (x.1, (let k : x.0 ≡ s = cc in λ i. Ok (k i, x.1)))
+read_ok (Err e) s is = absurd (grind arith)
+
+module _ {K : Type 0} (leads : K → K → Bool) (image : K → List ℕ) (accepted : MakeAccepted K) (plays : ScriptPlays leads image) (shorter : ReportLength image)
+    (r : Result (Told × List K) Refusal) (s : Told) (p : Proper s) (ps : List K) (is : r ≡ Ok (s, ps)) (long : length ps ≡ s.n) (past_end : K) where
+  pub report_is : (there : State K) → there ≡ state_by leads (history_of s ps past_end) image (λ _. None) → (room : ℕ) → longest_report ≤ room
+      → reporting image room there ≡ result_map_both (λ x. report_text image (row_by leads (history_of x.0 x.1 past_end))) (λ e. e) r
+  report_is there at room enough =
+      ap (reporting image room) at ∙ reported leads image accepted s p ps long past_end plays shorter room enough
+      ∙ ap (result_map_both (λ x. report_text image (row_by leads (history_of x.0 x.1 past_end))) (λ e. e)) (sym is)
+
+pub line_fits : (text out : List ℕ) → length text ≤ length out → IsOk (room_for text out)
+line_fits text out fits = (let k : leb (length text) (length out) ≡ true = grind (arith, nat_tests) in subst (λ b. IsOk (cond b (Ok (length text)) (Err Narrow))) (sym k) refl)

@@ -1,6 +1,5 @@
-use Rattle.std.proofs.Common.{length, Ok, sym, ap, ◌∙◌, arith}
+use Rattle.std.proofs.Common.{Ok, ap}
 use Rattle.kinds.specs.Pieces.{piece_leads, piece_image}
-use Rattle.wire.specs.Boards.{board_meaning}
 use Rattle.scripts.specs.Scripts.{told}
 use Rattle.plays.proofs.Made.{proper}
 use Rattle.plays.proofs.Reported.{new_wire, not_refused, ends_so, plays_on}
