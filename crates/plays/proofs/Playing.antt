@@ -15,7 +15,7 @@ use Rattle.runs.specs.Runs.{Call, round, after, state_after, all_accepted, state
 use Rattle.runs.specs.Theorems.{somebody_rings, Follows, CallsFollow}
 use Rattle.scripts.specs.declared.entry.Entry.{Entry}
 use Rattle.scripts.specs.Scripts.{Told}
-use Rattle.plays.specs.Plays.{told_before, calls_to, falls_of, ring_round}
+use Rattle.plays.specs.Plays.{told_before, calls_in, calls_to, falls_of, ring_round}
 use Rattle.plays.specs.Theorems.{Proper, EndsRinging, CallsGo, ScriptPlays}
 use Rattle.plays.proofs.Entries.{dated}
 use Rattle.plays.proofs.Ends.{ends, stands}
@@ -42,26 +42,30 @@ module _ {K : Type 0} (leads : K → K → Bool) (image : K → List ℕ) (es : 
   abbrev pub after_rounds : ℕ → State K
   after_rounds r = state_after leads image (calls_to es r) s
 
-  abbrev pub falls_told : ℕ → State K
-  falls_told r = state_after leads image (told_before (suc r) es) (after_rounds r)
-
-  pub accepted_round : (r : ℕ) → accepted_to (suc r)
-      → accepted_to r × (all_accepted leads image (told_before (suc r) es) (after_rounds r) ≡ true) × (is_ok (playing leads image longest_frame (falls_told r)) ≡ true)
-  unfolding calls_to state_after all_accepted
-  accepted_round r is =
-      let a = accepted-append leads image (calls_to es r) (told_before (suc r) es ++ (round longest_frame ∷ [])) s in
-      let b = accepted-append leads image (told_before (suc r) es) (round longest_frame ∷ []) (after_rounds r) in
-      (grind arith, grind arith, grind arith)
+  pub accepted_round : (r : ℕ) → accepted_to (suc r) → accepted_to r × (all_accepted leads image (calls_in (suc r) es) (after_rounds r) ≡ true)
+  unfolding calls_to
+  accepted_round r is = let a = accepted-append leads image (calls_to es r) (calls_in (suc r) es) s in (grind arith, grind arith)
 
   pub accepted_back : (r b : ℕ) → r ≤ b → accepted_to b → accepted_to r
   accepted_back r b l = le_ind (λ (m : ℕ). accepted_to m → accepted_to r) (λ is. is) (λ m k back is. back (accepted_round m is).0) b l
 
   -- and a round more leads on
-  pub round_on : (r : ℕ) → after_rounds (suc r) ≡ after leads image (round longest_frame) (falls_told r)
-  unfolding calls_to state_after
-  round_on r =
-      after-append leads image (calls_to es r) (told_before (suc r) es ++ (round longest_frame ∷ [])) s
-      ∙ after-append leads image (told_before (suc r) es) (round longest_frame ∷ []) (after_rounds r)
+  pub round_on : (r : ℕ) → after_rounds (suc r) ≡ state_after leads image (calls_in (suc r) es) (after_rounds r)
+  unfolding calls_to
+  round_on r = after-append leads image (calls_to es r) (calls_in (suc r) es) s
+
+-- the calls of a round are its falls, and then the round
+module _ {K : Type 0} (leads : K → K → Bool) (image : K → List ℕ) (r : ℕ) (es : List Entry) (s : State K) where
+  abbrev pub falls_told : State K
+  falls_told = state_after leads image (told_before r es) s
+
+  pub round_last : state_after leads image (calls_in r es) s ≡ after leads image (round longest_frame) falls_told
+  unfolding state_after
+  round_last = after-append leads image (told_before r es) (round longest_frame ∷ []) s
+
+  pub round_split : all_accepted leads image (calls_in r es) s ≡ (all_accepted leads image (told_before r es) s && (is_ok (playing leads image longest_frame falls_told) && true))
+  unfolding state_after all_accepted
+  round_split = accepted-append leads image (told_before r es) (round longest_frame ∷ []) s
 
 -- ---- rounds, by whether a box of the row rings
 
@@ -128,26 +132,20 @@ module _ {K : Type 0} (leads : K → K → Bool) (image : K → List ℕ) (agree
         let quiet = quiet_now r (past (suc r) falls) past_same early in
         grind (arith, nat_tests)
 
-    pub falls_ok : all_accepted leads image (told_before (suc r) s.entries) (at r) ≡ true
-    falls_ok = walked.0
-
-    abbrev then : State K
-    then = after leads image (round longest_frame) told
-
     pub there_next : At (at (suc r)) (past (suc r) falls) (suc r)
     there_next =
-        subst (λ x. At x (past (suc r) falls) (suc r)) (sym (round_on leads image s.entries first r))
+        subst (λ x. At x (past (suc r) falls) (suc r)) (sym (round_on leads image s.entries first r ∙ round_last leads image (suc r) s.entries (at r)))
         (next leads image agree only_past coming s p proposed m.posted (round longest_frame) told (history (past (suc r) falls) r) round_ok told_all)
 
     pub accepted_next : all_accepted leads image (calls_to s.entries r) first ≡ true → all_accepted leads image (calls_to s.entries (suc r)) first ≡ true
-    unfolding calls_to state_after all_accepted
+    unfolding calls_to
     accepted_next so_far =
-        let a = accepted-append leads image (calls_to s.entries r) (told_before (suc r) s.entries ++ (round longest_frame ∷ [])) first in
-        let b = accepted-append leads image (told_before (suc r) s.entries) (round longest_frame ∷ []) (at r) in
-        let f = falls_ok in
+        let a = accepted-append leads image (calls_to s.entries r) (calls_in (suc r) s.entries) first in
+        let b = round_split leads image (suc r) s.entries (at r) in
+        let f = walked.0 in
         let k = round_ok in
-        a ∙ ap (λ x. x && all_accepted leads image (told_before (suc r) s.entries ++ (round longest_frame ∷ [])) (at r)) so_far ∙ b
-        ∙ ap (λ x. x && all_accepted leads image (round longest_frame ∷ []) told) f ∙ ap (λ x. x && true) k
+        a ∙ ap (λ x. x && all_accepted leads image (calls_in (suc r) s.entries) (at r)) so_far ∙ b
+        ∙ ap (λ x. x && (is_ok (playing leads image longest_frame told) && true)) f ∙ ap (λ x. x && true) k
 
   -- ---- all rounds
 

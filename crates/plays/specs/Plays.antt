@@ -18,10 +18,14 @@ unfoldable pub told_before : ℕ → List Entry → List Call
 told_before r [] = []
 told_before r (e ∷ es) = cond (e.round.0 == r) (fall e.number e.lost ∷ told_before r es) (told_before r es)
 
--- the calls of the rounds up to r: before each its falls, and then the round
+-- the calls of round r: its falls are told, and it is played
+abbrev pub calls_in : ℕ → List Entry → List Call
+calls_in r es = told_before r es ++ (round longest_frame ∷ [])
+
+-- those of the rounds up to r
 unfoldable pub calls_to : List Entry → ℕ → List Call
 calls_to es zero = []
-calls_to es (suc r) = calls_to es r ++ (told_before (suc r) es ++ (round longest_frame ∷ []))
+calls_to es (suc r) = calls_to es r ++ calls_in (suc r) es
 
 -- ---- the rule
 

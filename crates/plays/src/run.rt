@@ -3,11 +3,11 @@ ghost use Rattle.std.specs.Prelude.{◌≡◌, ◌+◌, ◌≤◌, ℕ, true, Li
 ghost use Rattle.std.specs.Result.{result_map_both};
 ghost use Rattle.frames.specs.Faults.{map_fault};
 ghost use Rattle.rule.specs.Histories.{History};
-ghost use Rattle.rows.specs.Calls.{making};
+ghost use Rattle.rows.specs.Calls.{making, over};
 ghost use Rattle.runs.specs.Runs.{state_after, all_accepted};
 ghost use Rattle.ringing.specs.States.{state};
 ghost use Rattle.scripts.specs.Scripts.{told};
-ghost use Rattle.plays.specs.Plays.{told_before, calls_to, ring_round, history_of, script_played};
+ghost use Rattle.plays.specs.Plays.{told_before, calls_in, calls_to, ring_round, history_of, script_played};
 ghost use Rattle.plays.specs.Theorems.{EndsRinging, AllRing, CallsGo, GoesTo};
 
 use super::theorems::plays_stand;
@@ -37,17 +37,31 @@ fn tell_falls<W: Wire, K: Kind>(
     }
 }
 
-// Plays round after round, until the boxes ring. No call is refused.
+// Plays a round, before which its falls are told, and tells whether the boxes ring then. No call is refused.
+fn play_round<W: Wire, K: Kind>(
+    entries: &[Entry],
+    round: RoundNumber,
+    ringing: &mut Ringing<W>,
+    row: &mut [Place<K>],
+) -> bool
+    requires { all_accepted K.leads K.image (calls_in round.0 entries.now) (state (W.meaning ringing.old.wire) ringing.old.t ringing.old.closed row.old) ≡ true }
+    ensures state { let s = state (W.meaning ringing.old.wire) ringing.old.t ringing.old.closed row.old in state (W.meaning ringing.new.wire) ringing.new.t ringing.new.closed row.new ≡ state_after K.leads K.image (calls_in round.0 entries.now) s }
+    ensures over { result ≡ over (state (W.meaning ringing.new.wire) ringing.new.t ringing.new.closed row.new) }
+{
+    let mut line = [0; LONGEST_FRAME];
+    tell_falls(entries, round, ringing, row);
+    ringing.round(row, &mut line).unwrap();
+    is_over(row)
+}
+
+// Plays round after round, until the boxes ring.
 fn play_rounds<W: Wire, K: Kind>(script: &Script, ringing: &mut Ringing<W>, row: &mut [Place<K>])
     requires in_time { let r = ring_round (told script.now) in (1 ≤ r) × (r ≤ script.now.t + 1) }
     requires goes { CallsGo K.leads K.image (told script.now) (state (W.meaning ringing.old.wire) ringing.old.t ringing.old.closed row.old) }
     ensures { let s = state (W.meaning ringing.old.wire) ringing.old.t ringing.old.closed row.old in state (W.meaning ringing.new.wire) ringing.new.t ringing.new.closed row.new ≡ state_after K.leads K.image (calls_to script.now.entries.items (ring_round (told script.now))) s }
 {
-    let mut line = [0; LONGEST_FRAME];
     for closed in 0..=script.t() {
-        tell_falls(script.entries(), RoundNumber(closed + 1), ringing, row);
-        ringing.round(row, &mut line).unwrap();
-        if is_over(row) {
+        if play_round(script.entries(), RoundNumber(closed + 1), ringing, row) {
             break;
         }
     }

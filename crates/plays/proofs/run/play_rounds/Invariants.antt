@@ -1,4 +1,4 @@
-use Rattle.std.proofs.Common.{◌≡◌, ◌<◌, length}
+use Rattle.std.proofs.Common.{◌≡◌, ◌<◌}
 use Rattle.ringing.specs.States.{state}
 use Rattle.runs.specs.Runs.{state_after}
 use Rattle.scripts.specs.Scripts.{told}
@@ -9,7 +9,6 @@ use Rattle.plays.proofs.run.play_rounds.Given as given
 abbrev pub invariant-loop-closed : given.invariant-loop-closed
 invariant-loop-closed g l = record {
   early : l.closed < ring_round (told l.script);
-  line : length l.line ≡ 24;
   is : state (g.W.Wire.meaning l.ringing.wire) l.ringing.t l.ringing.closed l.row
       ≡ state_after g.K.Kind.leads g.K.Kind.image (calls_to l.script.entries.items l.closed) (state (g.W.Wire.meaning l.fn.ringing.wire) l.fn.ringing.t l.fn.ringing.closed l.fn.row);
 }
