@@ -3,7 +3,7 @@ use Rattle.std.proofs.Common.{◌≡◌, ℕ, suc, ◌<◌, ◌≤◌, Bool, tru
 use Rattle.std.specs.List.{slice_get, AllByRecursion}
 use Rattle.std.specs.Result.{result_map_both, IsOk}
 use Rattle.std.proofs.lemmas.Bool.Decides.{nat_tests}
-use Rattle.std.proofs.lemmas.List.{take_at}
+use Rattle.std.proofs.lemmas.List.{take_at, length-append}
 use Rattle.std.proofs.lemmas.Option.{slice_get_within, get_or_from_slice_get}
 use Rattle.numbers.specs.declared.refusal.Refusal.{Refusal}
 use Rattle.numbers.specs.declared.refusal.Refusal.TheVariants.{Narrow}
@@ -23,7 +23,7 @@ use Rattle.runs.specs.Runs.{row_by, state_by}
 use Rattle.runs.proofs.Pictured.{row_length}
 use Rattle.scripts.specs.Scripts.{Told}
 use Rattle.scripts.specs.Reading.{filled}
-use Rattle.reports.specs.Reports.{report_text, reporting}
+use Rattle.reports.specs.Reports.{report_text, reporting, told, laid}
 use Rattle.reports.specs.Theorems.{longest_report, IsEarly, ReportLength}
 use Rattle.plays.specs.Plays.{falls_of, ring_round, history_of, script_played}
 use Rattle.plays.specs.Theorems.{Proper, ScriptPlays}
@@ -145,3 +145,8 @@ module _ {K : Type 0} (leads : K → K → Bool) (image : K → List ℕ) (accep
 
 pub line_fits : (text out : List ℕ) → length text ≤ length out → IsOk (room_for text out)
 line_fits text out fits = (let k : leb (length text) (length out) ≡ true = grind (arith, nat_tests) in subst (λ b. IsOk (cond b (Ok (length text)) (Err Narrow))) (sym k) refl)
+
+-- what was written is not longer than the bytes
+pub told_fits : (r : Result (List ℕ) Refusal) (out new : List ℕ) (k : ℕ) → Ok k ≡ told r → new ≡ laid out r → k ≤ length new
+told_fits (Ok text) out new k is written = (let l = ap length written in let a = length-append text (drop (length text) out) in grind arith)
+told_fits (Err e) out new k is written = absurd (grind arith)

@@ -66,6 +66,7 @@ fn write_script_report(bytes: &[u8], out: &mut [u8]) -> Result<usize, Refusal>
 // of the refusal.
 pub fn answer(bytes: &[u8], out: &mut [u8; LONGEST_REPORT]) -> usize
     ensures told { (past_end : Piece) → result ≡ length (answer_text piece_leads piece_image 1 piece_named bytes.now past_end) }
+    ensures room { result ≤ LONGEST_REPORT }
     ensures bytes { (past_end : Piece) → let text = answer_text piece_leads piece_image 1 piece_named bytes.now past_end in out.new ≡ text ++ drop (length text) out.old }
 {
     let _ = reports_stand::<Piece>();
