@@ -1,5 +1,5 @@
 -- A ringing that is made for a script. Assumes nothing.
-use Rattle.std.proofs.Common.{◌≡◌, ℕ, ◌+◌, ◌≤◌, Bool, List, length, Ok, Err, Result, IfOk, sym, refl, ap, ◌∙◌, arith}
+use Rattle.std.proofs.Common.{◌≡◌, ℕ, ◌≤◌, Bool, List, length, Ok, Err, Result, IfOk, sym, refl, ap, ◌∙◌, arith}
 use Rattle.std.specs.Result.{result_map_both}
 use Rattle.std.proofs.lemmas.Bool.Decides.{nat_tests}
 use Rattle.numbers.specs.declared.refusal.Refusal.{Refusal}
@@ -9,7 +9,7 @@ use Rattle.rows.specs.Calls.{State, making}
 use Rattle.rows.proofs.Numbered.{get_some}
 use Rattle.runs.specs.Runs.{state_after, state_by}
 use Rattle.scripts.specs.declared.script.Script.{Script}
-use Rattle.scripts.specs.Scripts.{Told, told}
+use Rattle.scripts.specs.Scripts.{told}
 use Rattle.plays.specs.Plays.{calls_to, ring_round, history_of, script_played}
 use Rattle.plays.specs.Theorems.{Proper, CallsGo, GoesTo, ScriptPlays}
 
@@ -30,23 +30,25 @@ pub if_ok : {X E : Type 0} (P : X → Type 0) (r : Result X E) → ((x : X) → 
 if_ok P (Ok x) f = f x refl
 if_ok P (Err e) f = tt
 
-module _ {K : Type 0} (leads : K → K → Bool) (image : K → List ℕ) (plays : ScriptPlays leads image) (s : Told) (p : Proper s) (proposals : List K) (places : ℕ) (m : Meaning) (first : State K)
-    (formed : WellFormed m) (made : making s.n s.t m places proposals ≡ Ok first) where
-  -- there is a proposal
-  some : K
-  unfolding making
-  some = (get_some proposals 0 (let l : 1 ≤ length proposals = grind (arith, nat_tests) in l)).0
+module _ {K : Type 0} {leads : K → K → Bool} {image : K → List ℕ} (plays : ScriptPlays leads image) (s : Script) {m : Meaning} (formed : WellFormed m) (proposals : List K) (places : ℕ) where
+  module _ {first : State K} (made : making s.n s.t m places proposals ≡ Ok first) where
+    -- there is a proposal
+    some : K
+    unfolding making
+    some = (get_some proposals 0 (let l : 1 ≤ length proposals = (let size = s.size in grind (arith, nat_tests)) in l)).0
 
-  pub time : (1 ≤ ring_round s) × (ring_round s ≤ s.t + 1)
-  time = (plays s p proposals some).0.in_time
+    pub goes : (past_end : K) → GoesTo leads image m.posted (told s) (history_of (told s) proposals past_end) first
+    goes past_end = (plays (told s) (proper s) proposals past_end).2 places m first formed made
 
-  pub goes : (past_end : K) → GoesTo leads image m.posted s (history_of s proposals past_end) first
-  goes past_end = (plays s p proposals past_end).2 places m first formed made
+  module _ {W : Type 0} (w : W) {a b : ℕ} (an : a ≡ s.n) (bt : b ≡ s.t) {first : State K} (is : Ok first ≡ map_fault {E = W × Refusal} (λ e. (w, e)) (making a b m places proposals)) where
+    made : making s.n s.t m places proposals ≡ Ok first
+    made = made_for w s.n s.t a b m places proposals first an bt is
 
-  pub calls_go : CallsGo leads image s first
-  calls_go = (goes some).0
+    pub made_goes : CallsGo leads image (told s) first
+    made_goes = (goes made (some made)).0
 
-  pub played : {E : Type 0} (f : Refusal → E) (past_end : K) (end : State K) → end ≡ state_after leads image (calls_to s.entries (ring_round s)) first
-      → Ok end ≡ map_fault f (script_played leads image s m places proposals past_end)
-  played f past_end end is =
-      ap Ok (is ∙ (goes past_end).1) ∙ ap (λ r. map_fault f (result_map_both (λ _. state_by leads (history_of s proposals past_end) image m.posted) (λ x. x) r)) (sym made)
+    pub made_plays : {end : State K} (past_end : K) → end ≡ state_after leads image (calls_to s.entries.items (ring_round (told s))) first
+        → Ok end ≡ map_fault {E = W × Refusal} (λ e. (w, e)) (script_played leads image (told s) m places proposals past_end)
+    made_plays past_end lead =
+        ap Ok (lead ∙ (goes made past_end).1)
+        ∙ ap (λ r. map_fault {E = W × Refusal} (λ e. (w, e)) (result_map_both (λ _. state_by leads (history_of (told s) proposals past_end) image m.posted) (λ x. x) r)) (sym made)

@@ -174,6 +174,7 @@ module _ {K : Type 0} (leads : K → K → Bool) (image : K → List ℕ) (agree
       let end = reached (ring_round s) (omega arith) in
       let f = follows_now (at (ring_round s)) (past (ring_round s) falls) (ring_round s) end.1 in (
         record {
+          in_time = e.in_time;
           accepted = end.0;
           still = λ r l.
               let k = reached r (omega arith) in

@@ -40,8 +40,10 @@ AllRing leads h = (p : ℕ) → p < h.n
     → ((f : Fall) → h.falls p ≡ Some f → slice_get (row_by leads h) p ≡ Some (down f.round))
     × (h.falls p ≡ None → slice_get (row_by leads h) p ≡ Some (rung (record { round = record { 0 = h.closed }; proposal = estimate h leads p h.closed; blow = Rings })))
 
--- played from this state on, each call is accepted, the boxes ring after the last round and not before, and the row is not refused then
+-- played from this state on, in 1 to t + 1 rounds, each call is accepted, the boxes ring after the last round and not before, and the row is not
+-- refused then
 pub record CallsGo {K : Type 0} (leads : K → K → Bool) (image : K → List ℕ) (s : Told) (first : State K) : Type 0 where
+  pub in_time : (1 ≤ ring_round s) × (ring_round s ≤ s.t + 1)
   pub accepted : all_accepted leads image (calls_to s.entries (ring_round s)) first ≡ true
   pub still : (r : ℕ) → r < ring_round s → over (state_after leads image (calls_to s.entries r) first) ≡ false
   pub rings : over (state_after leads image (calls_to s.entries (ring_round s)) first) ≡ true

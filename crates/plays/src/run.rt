@@ -56,8 +56,7 @@ fn play_round<W: Wire, K: Kind>(
 
 // Plays round after round, until the boxes ring.
 fn play_rounds<W: Wire, K: Kind>(script: &Script, ringing: &mut Ringing<W>, row: &mut [Place<K>])
-    requires in_time { let r = ring_round (told script.now) in (1 ≤ r) × (r ≤ script.now.t + 1) }
-    requires goes { CallsGo K.leads K.image (told script.now) (state (W.meaning ringing.old.wire) ringing.old.t ringing.old.closed row.old) }
+    requires { CallsGo K.leads K.image (told script.now) (state (W.meaning ringing.old.wire) ringing.old.t ringing.old.closed row.old) }
     ensures { let s = state (W.meaning ringing.old.wire) ringing.old.t ringing.old.closed row.old in state (W.meaning ringing.new.wire) ringing.new.t ringing.new.closed row.new ≡ state_after K.leads K.image (calls_to script.now.entries.items (ring_round (told script.now))) s }
 {
     for closed in 0..=script.t() {

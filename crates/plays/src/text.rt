@@ -46,8 +46,7 @@ fn play_on_board(
 // Writes the report of the script to the front of `out`, or tells why the bytes are none.
 fn write_script_report(bytes: &[u8], out: &mut [u8]) -> Result<usize, Refusal>
     requires { longest_report ≤ length out.old }
-    ensures told { (past_end : Piece) → result ≡ result_map_both length (λ e. e) (script_report piece_leads piece_image 1 piece_named bytes.now past_end) }
-    ensures bytes { (past_end : Piece) → out.new ≡ laid out.old (script_report piece_leads piece_image 1 piece_named bytes.now past_end) }
+    ensures { (past_end : Piece) → let report = script_report piece_leads piece_image 1 piece_named bytes.now past_end in (result ≡ result_map_both length (λ e. e) report) × (out.new ≡ laid out.old report) }
 {
     let _ = scripts_stand::<Piece>();
     let _ = rows_stand::<Piece>();

@@ -13,7 +13,7 @@ unwrap-requires c =
 pub returns-in-Ok-clause-room : goal.returns-in-Ok-clause-room
 returns-in-Ok-clause-room c =
     let piece : Piece = record { number = 0; most = omega arith } in
-    let l = told_fits _ c.args.out.now c.write_script_report.new.out c.in-Ok.length (c.in-Ok.ensures.told piece) (c.in-Ok.ensures.bytes piece) in
+    let l = told_fits _ c.args.out.now c.write_script_report.new.out c.in-Ok.length (c.in-Ok.ensures piece).0 (c.in-Ok.ensures piece).1 in
     let k = c.told-out in
     let f = c.fits-out in
     omega arith
