@@ -15,13 +15,13 @@ use Rattle.rows.specs.Places.{down, stand_of}
 use Rattle.runs.specs.Runs.{stood, stand_by, row_by}
 use Rattle.runs.proofs.Pictured.{at_place, rings_stands}
 use Rattle.runs.proofs.Same.{rings_same}
-use Rattle.scripts.specs.Scripts.{Told}
+use Rattle.scripts.specs.Scripts.{Contents, Proper}
 use Rattle.plays.specs.Plays.{falls_of, ring_round}
-use Rattle.plays.specs.Theorems.{Proper, EndsRinging, AllRing}
+use Rattle.plays.specs.Theorems.{EndsRinging, AllRing}
 use Rattle.plays.proofs.Entries.{so_far_before, history_to, history_all, all_allowed, to_allowed}
 
 module _ {K : Type 0} (leads : K → K → Bool) (agree : (h : History K) → Agreement h leads) (remains : (h : History K) → Allowed h → SomeRemains h)
-    (only_past : (h : History K) → OnlyPast h leads) (s : Told) (p : Proper s) (proposals : ℕ → K) where
+    (only_past : (h : History K) → OnlyPast h leads) (s : Contents) (p : Proper s) (proposals : ℕ → K) where
   -- the waste of the rounds up to r, and all of it
   abbrev w : ℕ → ℕ
   w r = waste (falls_of s.entries) s.n r

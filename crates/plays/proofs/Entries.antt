@@ -9,9 +9,8 @@ use Rattle.rule.specs.Falls.{fell_before, so_far, past}
 use Rattle.rule.specs.Histories.{History, Allowed}
 use Rattle.scripts.specs.declared.entry.Entry.{Entry}
 use Rattle.scripts.specs.Entries.{is_named, fitting}
-use Rattle.scripts.specs.Scripts.{Told}
+use Rattle.scripts.specs.Scripts.{Contents, Proper}
 use Rattle.plays.specs.Plays.{falls_of}
-use Rattle.plays.specs.Theorems.{Proper}
 
 -- ---- entries that a script may have
 
@@ -110,7 +109,7 @@ so_far_dated s o is = by (fell_before o (suc s))
     by true = is
     by false = refl
 
-module _ {K : Type 0} (s : Told) (p : Proper s) (proposals : ℕ → K) where
+module _ {K : Type 0} (s : Contents) (p : Proper s) (proposals : ℕ → K) where
   -- the history of the falls up to round b, after round r
   abbrev pub history_to : ℕ → ℕ → History K
   history_to b r = record { n = s.n; t = s.t; proposals = proposals; falls = past b (falls_of s.entries); closed = r }

@@ -9,12 +9,12 @@ use Rattle.rows.specs.Calls.{State, making}
 use Rattle.rows.proofs.Numbered.{get_some}
 use Rattle.runs.specs.Runs.{state_after, state_by}
 use Rattle.scripts.specs.declared.script.Script.{Script}
-use Rattle.scripts.specs.Scripts.{told}
+use Rattle.scripts.specs.Scripts.{contents, Proper}
 use Rattle.plays.specs.Plays.{calls_to, ring_round, history_of, script_played}
-use Rattle.plays.specs.Theorems.{Proper, CallsGo, GoesTo, ScriptPlays}
+use Rattle.plays.specs.Theorems.{CallsGo, GoesTo, ScriptPlays}
 
 -- every script of this type is one that its reader lets through
-pub proper : (s : Script) → Proper (told s)
+pub proper : (s : Script) → Proper (contents s)
 proper s = record { size = s.size; few = s.few; fitting = s.fitting }
 
 -- what was made, for the script's n and t
@@ -37,18 +37,18 @@ module _ {K : Type 0} {leads : K → K → Bool} {image : K → List ℕ} (plays
     unfolding making
     some = (get_some proposals 0 (let l : 1 ≤ length proposals = (let size = s.size in grind (arith, nat_tests)) in l)).0
 
-    pub goes : (past_end : K) → GoesTo leads image m.posted (told s) (history_of (told s) proposals past_end) first
-    goes past_end = (plays (told s) (proper s) proposals past_end).2 places m first formed made
+    pub goes : (past_end : K) → GoesTo leads image m.posted (contents s) (history_of (contents s) proposals past_end) first
+    goes past_end = (plays (contents s) (proper s) proposals past_end).2 places m first formed made
 
   module _ {W : Type 0} (w : W) {a b : ℕ} (an : a ≡ s.n) (bt : b ≡ s.t) {first : State K} (is : Ok first ≡ map_fault {E = W × Refusal} (λ e. (w, e)) (making a b m places proposals)) where
     made : making s.n s.t m places proposals ≡ Ok first
     made = made_for w s.n s.t a b m places proposals first an bt is
 
-    pub made_goes : CallsGo leads image (told s) first
+    pub made_goes : CallsGo leads image (contents s) first
     made_goes = (goes made (some made)).0
 
-    pub made_plays : {end : State K} (past_end : K) → end ≡ state_after leads image (calls_to s.entries.items (ring_round (told s))) first
-        → Ok end ≡ map_fault {E = W × Refusal} (λ e. (w, e)) (script_played leads image (told s) m places proposals past_end)
+    pub made_plays : {end : State K} (past_end : K) → end ≡ state_after leads image (calls_to s.entries.items (ring_round (contents s))) first
+        → Ok end ≡ map_fault {E = W × Refusal} (λ e. (w, e)) (script_played leads image (contents s) m places proposals past_end)
     made_plays past_end lead =
         ap Ok (lead ∙ (goes made past_end).1)
-        ∙ ap (λ r. map_fault {E = W × Refusal} (λ e. (w, e)) (result_map_both (λ _. state_by leads (history_of (told s) proposals past_end) image m.posted) (λ x. x) r)) (sym made)
+        ∙ ap (λ r. map_fault {E = W × Refusal} (λ e. (w, e)) (result_map_both (λ _. state_by leads (history_of (contents s) proposals past_end) image m.posted) (λ x. x) r)) (sym made)

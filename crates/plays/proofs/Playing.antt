@@ -14,9 +14,9 @@ use Rattle.rows.specs.Calls.{State, making, bad_row, over, playing}
 use Rattle.runs.specs.Runs.{Call, round, after, state_after, all_accepted, state_by}
 use Rattle.runs.specs.Theorems.{somebody_rings, Follows, CallsFollow}
 use Rattle.scripts.specs.declared.entry.Entry.{Entry}
-use Rattle.scripts.specs.Scripts.{Told}
+use Rattle.scripts.specs.Scripts.{Contents, Proper}
 use Rattle.plays.specs.Plays.{told_before, calls_in, calls_to, falls_of, ring_round}
-use Rattle.plays.specs.Theorems.{Proper, EndsRinging, CallsGo, ScriptPlays}
+use Rattle.plays.specs.Theorems.{EndsRinging, CallsGo, ScriptPlays}
 use Rattle.plays.proofs.Entries.{dated}
 use Rattle.plays.proofs.Ends.{ends, stands}
 use Rattle.plays.proofs.Walked.{told_past, with_told, ready, silent, Reached, now, next, walk}
@@ -79,7 +79,7 @@ module _ {K : Type 0} (leads : K → K → Bool) (image : K → List ℕ) (s : S
   over_where_refused good refused = grind (arith, nat_tests)
 
 module _ {K : Type 0} (leads : K → K → Bool) (image : K → List ℕ) (agree : (h : History K) → Agreement h leads) (remains : (h : History K) → Allowed h → SomeRemains h)
-    (only_past : (h : History K) → OnlyPast h leads) (coming : FallToCome) (follow : CallsFollow leads image) (s : Told) (p : Proper s) (proposals : List K) (past_end : K)
+    (only_past : (h : History K) → OnlyPast h leads) (coming : FallToCome) (follow : CallsFollow leads image) (s : Contents) (p : Proper s) (proposals : List K) (past_end : K)
     (places : ℕ) (m : Meaning) (first : State K) (formed : WellFormed m) (made : making s.n s.t m places proposals ≡ Ok first) where
   abbrev proposed : ℕ → K
   proposed q = get_or proposals q past_end

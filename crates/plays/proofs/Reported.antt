@@ -21,12 +21,12 @@ use Rattle.rows.specs.Calls.{State, making, first_row, bad_row, over}
 use Rattle.rows.specs.Theorems.{MakeAccepted}
 use Rattle.runs.specs.Runs.{row_by, state_by}
 use Rattle.runs.proofs.Pictured.{row_length}
-use Rattle.scripts.specs.Scripts.{Told}
+use Rattle.scripts.specs.Scripts.{Contents, Proper}
 use Rattle.scripts.specs.Reading.{filled}
 use Rattle.reports.specs.Reports.{report_text, reporting, told, laid}
 use Rattle.reports.specs.Theorems.{longest_report, IsEarly, ReportLength}
 use Rattle.plays.specs.Plays.{falls_of, ring_round, history_of, script_played}
-use Rattle.plays.specs.Theorems.{Proper, ScriptPlays}
+use Rattle.plays.specs.Theorems.{ScriptPlays}
 use Rattle.plays.proofs.Entries.{so_far_before}
 
 -- ---- a new wire
@@ -60,7 +60,7 @@ all_at : {X : Type 0} (P : X → Type 0) (xs : List X) → ((p : ℕ) (x : X) �
 all_at P [] at = tt
 all_at P (x ∷ xs) at = (at 0 x refl, all_at P xs (λ p y e. at (suc p) y e))
 
-module _ {K : Type 0} (leads : K → K → Bool) (image : K → List ℕ) (accepted : MakeAccepted K) (s : Told) (p : Proper s) (proposals : List K) (long : length proposals ≡ s.n) where
+module _ {K : Type 0} (leads : K → K → Bool) (image : K → List ℕ) (accepted : MakeAccepted K) (s : Contents) (p : Proper s) (proposals : List K) (long : length proposals ≡ s.n) where
   few : s.n ≤ 32
   few = let size = p.size in grind (arith, nat_tests)
 
@@ -125,18 +125,18 @@ pub bytes_small : (bytes : List ℕ) → ((i : ℕ) → Fits w8 (get_or bytes i 
 bytes_small bytes fits = all_at (λ b. b < 256) bytes (λ p x at. let e = get_or_from_slice_get bytes p x 0 at in omega (arith, fits p))
 
 -- the places of the proposals
-pub laid_first : {K : Type 0} (r : Result (Told × List K) Refusal) (s : Told) (ps old new : List K) (n : ℕ) → r ≡ Ok (s, ps) → new ≡ filled r old → length ps ≡ n → take n new ≡ ps
+pub laid_first : {K : Type 0} (r : Result (Contents × List K) Refusal) (s : Contents) (ps old new : List K) (n : ℕ) → r ≡ Ok (s, ps) → new ≡ filled r old → length ps ≡ n → take n new ≡ ps
 laid_first r s ps old new n is laid long = ap (take n) (laid ∙ ap (λ x. filled x old) is) ∙ take_at ps (drop (length ps) old) n long
 
 pub ok_same : {X E : Type 0} (x y : X) → ◌≡◌ {A = Result X E} (Ok x) (Ok y) → x ≡ y
 ok_same x y e = cc
 
-pub read_ok : {K : Type 0} (r : Result (Told × List K) Refusal) (s : Told) → Ok s ≡ result_map_both (λ x. x.0) (λ e. e) r → (ps : List K) × (r ≡ Ok (s, ps))
+pub read_ok : {K : Type 0} (r : Result (Contents × List K) Refusal) (s : Contents) → Ok s ≡ result_map_both (λ x. x.0) (λ e. e) r → (ps : List K) × (r ≡ Ok (s, ps))
 read_ok (Ok x) s is = (x.1, (let k : x.0 ≡ s = cc in λ i. Ok (k i, x.1)))
 read_ok (Err e) s is = absurd (grind arith)
 
 module _ {K : Type 0} (leads : K → K → Bool) (image : K → List ℕ) (accepted : MakeAccepted K) (plays : ScriptPlays leads image) (shorter : ReportLength image)
-    (r : Result (Told × List K) Refusal) (s : Told) (p : Proper s) (ps : List K) (is : r ≡ Ok (s, ps)) (long : length ps ≡ s.n) (past_end : K) where
+    (r : Result (Contents × List K) Refusal) (s : Contents) (p : Proper s) (ps : List K) (is : r ≡ Ok (s, ps)) (long : length ps ≡ s.n) (past_end : K) where
   pub report_is : (there : State K) → there ≡ state_by leads (history_of s ps past_end) image (λ _. None) → (room : ℕ) → longest_report ≤ room
       → reporting image room there ≡ result_map_both (λ x. report_text image (row_by leads (history_of x.0 x.1 past_end))) (λ e. e) r
   report_is there at room enough =

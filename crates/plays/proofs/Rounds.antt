@@ -4,17 +4,17 @@ use Rattle.std.proofs.lemmas.Bool.{cases_lt, both_ways}
 use Rattle.rows.specs.Calls.{State, over}
 use Rattle.runs.specs.Runs.{state_after, all_accepted}
 use Rattle.scripts.specs.declared.entry.Entry.{Entry}
-use Rattle.scripts.specs.Scripts.{Told}
+use Rattle.scripts.specs.Scripts.{Contents}
 use Rattle.plays.specs.Plays.{calls_in, calls_to, ring_round}
 use Rattle.plays.specs.Theorems.{CallsGo}
 use Rattle.plays.proofs.Playing.{after_rounds, accepted_round, accepted_back, round_on}
 
 -- from the state `first` on so many rounds of a script are played, the state is x, and the boxes do not ring yet
-pub record Here {K : Type 0} (leads : K → K → Bool) (image : K → List ℕ) (s : Told) (first : State K) (r : ℕ) (x : State K) : Type 0 where
+pub record Here {K : Type 0} (leads : K → K → Bool) (image : K → List ℕ) (s : Contents) (first : State K) (r : ℕ) (x : State K) : Type 0 where
   pub early : r < ring_round s
   pub is : x ≡ after_rounds leads image s.entries first r
 
-module _ {K : Type 0} {leads : K → K → Bool} {image : K → List ℕ} {s : Told} {first : State K} (goes : CallsGo leads image s first) where
+module _ {K : Type 0} {leads : K → K → Bool} {image : K → List ℕ} {s : Contents} {first : State K} (goes : CallsGo leads image s first) where
   pub begins : Here leads image s first 0 first
   unfolding calls_to state_after
   begins = record { early = omega (arith, goes.in_time.0); is = refl }

@@ -16,9 +16,8 @@ use Rattle.runs.specs.Theorems.{somebody_rings, may_fall, Follows}
 use Rattle.runs.proofs.Same.{closes_same, rings_same}
 use Rattle.scripts.specs.declared.entry.Entry.{Entry}
 use Rattle.scripts.specs.Entries.{is_named, fitting}
-use Rattle.scripts.specs.Scripts.{Told}
+use Rattle.scripts.specs.Scripts.{Contents, Proper}
 use Rattle.plays.specs.Plays.{told_before, falls_of, ring_round}
-use Rattle.plays.specs.Theorems.{Proper}
 use Rattle.plays.proofs.Entries.{Fits, fit_of, fall_by, falls_first, falls_other, unnamed_stands, so_far_some, history_all, all_allowed, few_fall}
 
 -- ---- the falls, once those of a round were told
@@ -127,7 +126,7 @@ module _ (n t r : ℕ) (f g : Falls) (e : Entry) (es : List Entry) (fits : Fits 
 -- ---- the calls
 
 module _ {K : Type 0} (leads : K → K → Bool) (image : K → List ℕ) (agree : (h : History K) → Agreement h leads) (only_past : (h : History K) → OnlyPast h leads)
-    (coming : FallToCome) (s : Told) (p : Proper s) (proposals : ℕ → K) where
+    (coming : FallToCome) (s : Contents) (p : Proper s) (proposals : ℕ → K) where
   abbrev falls : Falls
   falls = falls_of s.entries
 

@@ -9,7 +9,7 @@ use Rattle.rule.specs.Histories.{History}
 use Rattle.rows.specs.Calls.{State, making}
 use Rattle.runs.specs.Runs.{Call, fall, round, state_by}
 use Rattle.scripts.specs.declared.entry.Entry.{Entry}
-use Rattle.scripts.specs.Scripts.{Told}
+use Rattle.scripts.specs.Scripts.{Contents}
 
 -- ---- the calls
 
@@ -35,11 +35,11 @@ falls_of [] = no_falls
 falls_of (e ∷ es) = with_fall e.round.0 e.number.0 e.lost (falls_of es)
 
 -- the round t + 1 - D, where D is the most by which the boxes found missing in a round of the script, up to t + 1, exceed its number
-abbrev pub ring_round : Told → ℕ
+abbrev pub ring_round : Contents → ℕ
 ring_round s = s.t + 1 - waste (falls_of s.entries) s.n (s.t + 1)
 
 -- the history of a script with these proposals after that round. Entries of later rounds do not come about
-abbrev pub history_of : {K : Type 0} → Told → List K → K → History K
+abbrev pub history_of : {K : Type 0} → Contents → List K → K → History K
 history_of s proposals past_end = record {
   n = s.n;
   t = s.t;
@@ -50,6 +50,6 @@ history_of s proposals past_end = record {
 
 -- what playing it over a wire with this meaning leaves, for a row of so many places: a ringing is made, unless that is refused, and at the end it
 -- is with its row that of the history
-abbrev pub script_played : {K : Type 0} → (K → K → Bool) → (K → List ℕ) → Told → Meaning → ℕ → List K → K → Result (State K) Refusal
+abbrev pub script_played : {K : Type 0} → (K → K → Bool) → (K → List ℕ) → Contents → Meaning → ℕ → List K → K → Result (State K) Refusal
 script_played leads image s m places proposals past_end =
     result_map_both (λ _. state_by leads (history_of s proposals past_end) image m.posted) (λ e. e) (making s.n s.t m places proposals)

@@ -1,7 +1,6 @@
 -- What playing a script comes to. Assumes nothing.
-use Rattle.std.specs.Prelude.{◌≡◌, ℕ, ◌+◌, ◌<◌, ◌≤◌, Bool, true, false, Option, List, length, Some, None, Ok}
+use Rattle.std.specs.Prelude.{◌≡◌, ℕ, ◌+◌, ◌<◌, ◌≤◌, Bool, true, false, Option, List, Some, None, Ok}
 use Rattle.std.specs.List.{slice_get}
-use Rattle.sets.specs.Companies.{company}
 use Rattle.wire.specs.Meaning.{Meaning, WellFormed}
 use Rattle.rule.specs.declared.falls.Fall.{Fall}
 use Rattle.rule.specs.Falls.{closes}
@@ -12,15 +11,8 @@ use Rattle.rows.specs.declared.place.Blow.TheVariants.{Rings}
 use Rattle.rows.specs.Places.{down, rung}
 use Rattle.rows.specs.Calls.{State, making, bad_row, over}
 use Rattle.runs.specs.Runs.{state_after, all_accepted, row_by, state_by}
-use Rattle.scripts.specs.Entries.{fitting}
-use Rattle.scripts.specs.Scripts.{Told}
+use Rattle.scripts.specs.Scripts.{Contents, Proper}
 use Rattle.plays.specs.Plays.{calls_to, ring_round, history_of}
-
--- a script as its reader lets one through
-pub record Proper (s : Told) : Type 0 where
-  pub size : company s.n s.t ≡ true
-  pub few : length s.entries ≤ s.t
-  pub fitting : fitting s.n s.t s.entries ≡ true
 
 -- a history ends in the round in which its boxes ring: it keeps the limits; its last round is t + 1 - D, D taken over the rounds closed, and one of 1 to
 -- t + 1; nobody rang before; all boxes that closed it ring in it, and one at least; they do so on one estimate, which a box proposed, and no ringing box
@@ -42,7 +34,7 @@ AllRing leads h = (p : ℕ) → p < h.n
 
 -- played from this state on, in 1 to t + 1 rounds, each call is accepted, the boxes ring after the last round and not before, and the row is not
 -- refused then
-pub record CallsGo {K : Type 0} (leads : K → K → Bool) (image : K → List ℕ) (s : Told) (first : State K) : Type 0 where
+pub record CallsGo {K : Type 0} (leads : K → K → Bool) (image : K → List ℕ) (s : Contents) (first : State K) : Type 0 where
   pub in_time : (1 ≤ ring_round s) × (ring_round s ≤ s.t + 1)
   pub accepted : all_accepted leads image (calls_to s.entries (ring_round s)) first ≡ true
   pub still : (r : ℕ) → r < ring_round s → over (state_after leads image (calls_to s.entries r) first) ≡ false
@@ -50,13 +42,13 @@ pub record CallsGo {K : Type 0} (leads : K → K → Bool) (image : K → List �
   pub good : bad_row (state_after leads image (calls_to s.entries (ring_round s)) first) ≡ false
 
 -- and they lead to the state of a history
-abbrev pub GoesTo : {K : Type 0} → (K → K → Bool) → (K → List ℕ) → (ℕ → Option (List ℕ)) → Told → History K → State K → Type 0
+abbrev pub GoesTo : {K : Type 0} → (K → K → Bool) → (K → List ℕ) → (ℕ → Option (List ℕ)) → Contents → History K → State K → Type 0
 GoesTo leads image unopened s h first = CallsGo leads image s first × (state_after leads image (calls_to s.entries (ring_round s)) first ≡ state_by leads h image unopened)
 
 -- every script, with these proposals, is played so over every wire, from the making on; then the ringing and its row are those of the rule, by which
 -- all ring
 abbrev pub ScriptPlays : {K : Type 0} → (K → K → Bool) → (K → List ℕ) → Type 0
-ScriptPlays {K} leads image = (s : Told) → Proper s → (proposals : List K) (past_end : K)
+ScriptPlays {K} leads image = (s : Contents) → Proper s → (proposals : List K) (past_end : K)
     → let h = history_of s proposals past_end in
     EndsRinging leads h × AllRing leads h
     × ((places : ℕ) (m : Meaning) (first : State K) → WellFormed m → making s.n s.t m places proposals ≡ Ok first

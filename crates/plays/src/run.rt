@@ -6,7 +6,7 @@ ghost use Rattle.rule.specs.Histories.{History};
 ghost use Rattle.rows.specs.Calls.{making, over};
 ghost use Rattle.runs.specs.Runs.{state_after, all_accepted};
 ghost use Rattle.ringing.specs.States.{state};
-ghost use Rattle.scripts.specs.Scripts.{told};
+ghost use Rattle.scripts.specs.Scripts.{contents};
 ghost use Rattle.plays.specs.Plays.{told_before, calls_in, calls_to, ring_round, history_of, script_played};
 ghost use Rattle.plays.specs.Theorems.{EndsRinging, AllRing, CallsGo, GoesTo};
 
@@ -56,8 +56,8 @@ fn play_round<W: Wire, K: Kind>(
 
 // Plays round after round, until the boxes ring.
 fn play_rounds<W: Wire, K: Kind>(script: &Script, ringing: &mut Ringing<W>, row: &mut [Place<K>])
-    requires { CallsGo K.leads K.image (told script.now) (state (W.meaning ringing.old.wire) ringing.old.t ringing.old.closed row.old) }
-    ensures { let s = state (W.meaning ringing.old.wire) ringing.old.t ringing.old.closed row.old in state (W.meaning ringing.new.wire) ringing.new.t ringing.new.closed row.new ≡ state_after K.leads K.image (calls_to script.now.entries.items (ring_round (told script.now))) s }
+    requires { CallsGo K.leads K.image (contents script.now) (state (W.meaning ringing.old.wire) ringing.old.t ringing.old.closed row.old) }
+    ensures { let s = state (W.meaning ringing.old.wire) ringing.old.t ringing.old.closed row.old in state (W.meaning ringing.new.wire) ringing.new.t ringing.new.closed row.new ≡ state_after K.leads K.image (calls_to script.now.entries.items (ring_round (contents script.now))) s }
 {
     for closed in 0..=script.t() {
         if play_round(script.entries(), RoundNumber(closed + 1), ringing, row) {
@@ -75,10 +75,10 @@ pub fn play<W: Wire, K: Kind>(
     wire: W,
     row: &mut [Place<K>],
 ) -> Result<Ringing<W>, (W, Refusal)>
-    ensures played { (past_end : K) → result_map_both (λ r. state (W.meaning r.wire) r.t r.closed row.new) (λ e. e) result ≡ map_fault (λ e. (wire, e)) (script_played K.leads K.image (told script.now) (W.meaning wire) (length row.old) proposals.now past_end) }
+    ensures played { (past_end : K) → result_map_both (λ r. state (W.meaning r.wire) r.t r.closed row.new) (λ e. e) result ≡ map_fault (λ e. (wire, e)) (script_played K.leads K.image (contents script.now) (W.meaning wire) (length row.old) proposals.now past_end) }
     ensures refused { OnErr result (row.new ≡ row.old) }
-    ensures rings { (past_end : K) → let h = history_of (told script.now) proposals.now past_end in EndsRinging K.leads h × AllRing K.leads h }
-    ensures goes { (past_end : K) → IfOk (making script.now.n script.now.t (W.meaning wire) (length row.old) proposals.now) (λ first. GoesTo K.leads K.image (W.meaning wire).posted (told script.now) (history_of (told script.now) proposals.now past_end) first) }
+    ensures rings { (past_end : K) → let h = history_of (contents script.now) proposals.now past_end in EndsRinging K.leads h × AllRing K.leads h }
+    ensures goes { (past_end : K) → IfOk (making script.now.n script.now.t (W.meaning wire) (length row.old) proposals.now) (λ first. GoesTo K.leads K.image (W.meaning wire).posted (contents script.now) (history_of (contents script.now) proposals.now past_end) first) }
 {
     let _ = plays_stand::<K>();
     let mut ringing = Ringing::make(script.n(), script.t(), wire, row, proposals)?;

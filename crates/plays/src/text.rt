@@ -5,7 +5,7 @@ ghost use Rattle.kinds.specs.Pieces.{piece_leads, piece_image, piece_named};
 ghost use Rattle.wire.specs.Boards.{board_meaning};
 ghost use Rattle.runs.specs.Runs.{state_by};
 ghost use Rattle.ringing.specs.States.{state};
-ghost use Rattle.scripts.specs.Scripts.{told};
+ghost use Rattle.scripts.specs.Scripts.{contents};
 ghost use Rattle.reports.specs.Reports.{laid};
 ghost use Rattle.reports.specs.Theorems.{longest_report};
 ghost use Rattle.plays.specs.Plays.{history_of};
@@ -33,7 +33,7 @@ fn play_on_board(
 ) -> Result<Ringing<Board>, Refusal>
     requires pieces { length pieces.now ≡ script.now.n }
     requires row { length row.old ≡ script.now.n }
-    ensures { (past_end : Piece) → result_map_both (λ r. state (board_meaning r.wire) r.t r.closed row.new) (λ e. e) result ≡ Ok (state_by piece_leads (history_of (told script.now) pieces.now past_end) piece_image (λ _. None)) }
+    ensures { (past_end : Piece) → result_map_both (λ r. state (board_meaning r.wire) r.t r.closed row.new) (λ e. e) result ≡ Ok (state_by piece_leads (history_of (contents script.now) pieces.now past_end) piece_image (λ _. None)) }
 {
     let _ = rows_stand::<Piece>();
     let board = Board::new(script.n())?;

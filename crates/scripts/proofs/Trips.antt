@@ -19,7 +19,7 @@ use Rattle.frames.specs.Frames.{read_proposal}
 use Rattle.frames.proofs.Trips.{next_inv, rest_of, fields_are, wide, proposal_judged, proposal_only}
 use Rattle.scripts.specs.declared.entry.Entry.{Entry}
 use Rattle.scripts.specs.declared.reader.Head.{Head}
-use Rattle.scripts.specs.Scripts.{Told}
+use Rattle.scripts.specs.Scripts.{Contents}
 use Rattle.scripts.specs.Entries.{is_named, bad_round, fits, fitting}
 use Rattle.scripts.specs.Reading.{number_at, read_head, several, proposal_at, entry_at, read_entries, read_script}
 use Rattle.scripts.specs.Theorems.{entry_numbers, script_numbers, Stands, ScriptOnly, ScriptBack}
@@ -240,11 +240,11 @@ module _ {K : Type 0} (size : ℕ) (image : K → List ℕ) (named : List ℕ �
         let numbers = flat_map entry_numbers es.0 in
         let end = ap (λ l. written (length es.0) ++ (written_all numbers ++ l)) (drop_all es.1 bytes over) in
         let chain = head_only places bytes head all h ∙ ap (λ l. written head.n ++ (written head.t ++ l)) (i ∙ ap (λ l. written_all images ++ l) (e.1 ∙ end)) in (
-          record { size = is.size; whole = several_length (λ _. proposal_at size named bytes) head.next head.n ps p; room = is.room; few = fit.1; fit = fit.0; masks = e.0 },
+          record { proper = record { size = is.size; few = fit.1; fitting = fit.0 }; whole = several_length (λ _. proposal_at size named bytes) head.next head.n ps p; room = is.room; masks = e.0 },
           chain ∙ sym (parts_are head.n head.t images (length es.0) numbers []) ∙ append-nil _,
         )
 
-    all_only : (places : ℕ) (bytes : List ℕ) (all : Told × List K) → AllByRecursion (λ b. b < 256) bytes → read_script size named places bytes ≡ Ok all
+    all_only : (places : ℕ) (bytes : List ℕ) (all : Contents × List K) → AllByRecursion (λ b. b < 256) bytes → read_script size named places bytes ≡ Ok all
         → Stands places all.0 all.1 × (bytes ≡ written_all (script_numbers image all.0 all.1))
     unfolding read_script
     all_only places bytes all byte is =
@@ -275,8 +275,8 @@ module _ {K : Type 0} (size : ℕ) (image : K → List ℕ) (named : List ℕ �
         let end = from + length (written_all images) + length (written (length s.entries)) + length (written_all numbers) in
         let none : drop end bytes ≡ [] = rest_of bytes (from + length (written_all images) + length (written (length s.entries))) (written_all numbers) [] is₄ in
         let over : length bytes ≤ end = omega (arith, ap length none, length-drop end bytes) in
-        let h = head_back places s.n s.t bytes _ st.size st.room is₀ in
+        let h = head_back places s.n s.t bytes _ st.proper.size st.room is₀ in
         let one = λ (_ : List K). proposal_at size named bytes in
         let p = several_back image one bytes (λ _ _. Unit {0}) (λ _ x place behind _ is. image_back bytes x place behind is) [] ps from from _ (several_none one from) (any_may [] ps) is₂ in
-        let q = entries_back s.n s.t bytes (from + length (written_all images)) s.entries [] st.size st.fit st.few st.masks is₃ in
+        let q = entries_back s.n s.t bytes (from + length (written_all images)) s.entries [] st.proper.size st.proper.fitting st.proper.few st.masks is₃ in
         script_is size named places bytes _ h ps _ (rw st.whole at p) s.entries end q over

@@ -11,7 +11,7 @@ use Rattle.frames.specs.Frames.{read_proposal}
 use Rattle.scripts.specs.declared.entry.Entry.{Entry}
 use Rattle.scripts.specs.declared.reader.Head.{Head}
 use Rattle.scripts.specs.Entries.{is_named, bad_round}
-use Rattle.scripts.specs.Scripts.{Told}
+use Rattle.scripts.specs.Scripts.{Contents}
 
 -- the number at a place, and the place behind it
 abbrev pub number_at : List ℕ → ℕ → Result Decoded Refusal
@@ -64,7 +64,7 @@ read_entries n t bytes place =
 
 -- the script that all the bytes make, with room for so many proposals: what it holds, and the proposals. Each number or image is judged when it is
 -- read, and bytes that follow are refused last
-unfoldable pub read_script : {K : Type 0} → ℕ → (List ℕ → Option K) → ℕ → List ℕ → Result (Told × List K) Refusal
+unfoldable pub read_script : {K : Type 0} → ℕ → (List ℕ → Option K) → ℕ → List ℕ → Result (Contents × List K) Refusal
 read_script size named places bytes =
     and_then (λ e. e) (read_head places bytes) (λ head.
     and_then (λ e. e) (several (λ _. proposal_at size named bytes) head.n head.next) (λ proposals.
@@ -72,6 +72,6 @@ read_script size named places bytes =
     unless ((nat_lt entries.1 (length bytes), refusal.Surplus) ∷ []) (record { n = head.n; t = head.t; entries = entries.0 }, proposals.0))))
 
 -- what the places for the proposals hold then: at the front those of the script, and the others what they held
-abbrev pub filled : {K : Type 0} → Result (Told × List K) Refusal → List K → List K
+abbrev pub filled : {K : Type 0} → Result (Contents × List K) Refusal → List K → List K
 filled (Ok script) old = script.1 ++ drop (length script.1) old
 filled (Err e) old = old

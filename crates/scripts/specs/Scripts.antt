@@ -1,13 +1,21 @@
 -- What a script holds beside the proposals. Assumes nothing.
-use Rattle.std.specs.Prelude.{ℕ, List}
+use Rattle.std.specs.Prelude.{◌≡◌, ℕ, ◌≤◌, true, List, length}
+use Rattle.sets.specs.Companies.{company}
 use Rattle.scripts.specs.declared.entry.Entry.{Entry}
 use Rattle.scripts.specs.declared.script.Script.{Script}
+use Rattle.scripts.specs.Entries.{fitting}
 
 -- how many boxes the company has, how many of them may fall, and which fall
-pub record Told : Type 0 where
+pub record Contents : Type 0 where
   pub n : ℕ
   pub t : ℕ
   pub entries : List Entry
 
-abbrev pub told : Script → Told
-told s = record { n = s.n; t = s.t; entries = s.entries.items }
+abbrev pub contents : Script → Contents
+contents s = record { n = s.n; t = s.t; entries = s.entries.items }
+
+-- a script keeps the limits: n and t are those of a company, and it has at most t entries, which it may have
+pub record Proper (s : Contents) : Type 0 where
+  pub size : company s.n s.t ≡ true
+  pub few : length s.entries ≤ s.t
+  pub fitting : fitting s.n s.t s.entries ≡ true

@@ -3,7 +3,7 @@ ghost use Rattle.std.specs.Prelude.{◌≡◌, length, true};
 ghost use Rattle.std.specs.Result.{result_map_both};
 ghost use Rattle.sets.specs.Companies.{company};
 ghost use Rattle.scripts.specs.Entries.{is_named};
-ghost use Rattle.scripts.specs.Scripts.{told};
+ghost use Rattle.scripts.specs.Scripts.{contents};
 ghost use Rattle.scripts.specs.Reading.{number_at, read_head, several, proposal_at, entry_at, read_entries, read_script, filled};
 
 use super::entry::Entry;
@@ -152,10 +152,10 @@ fn read_entries(
     Ok((entries, next))
 }
 
-// Reads the script that all the bytes make, lays its proposals into the places from the first on, and tells the rest. A refusal touches no place,
-// so the proposals are laid last: there is no room beside for those of an open kind, of which no proof knows the size.
+// Reads the script that all the bytes make, lays its proposals into the places from the first on, and tells the rest. A refusal touches no place, so
+// the images are judged first and the proposals laid last: a copy would be an array of an open kind, which cannot be had.
 pub fn read_script<K: Kind>(bytes: &[u8], places: &mut [K]) -> Result<Script, Refusal>
-    ensures script { result_map_both told (λ e. e) result ≡ result_map_both (λ x. x.0) (λ e. e) (read_script K.SIZE K.named (length places.old) bytes.now) }
+    ensures script { result_map_both contents (λ e. e) result ≡ result_map_both (λ x. x.0) (λ e. e) (read_script K.SIZE K.named (length places.old) bytes.now) }
     ensures places { places.new ≡ filled (read_script K.SIZE K.named (length places.old) bytes.now) places.old }
 {
     let head = read_head(bytes, places.len())?;

@@ -5,9 +5,10 @@ ghost use Rattle.scripts.specs.Entries.{fitting};
 
 use super::entry::Entry;
 use arrayvec::ArrayVec;
+use sets::MOST_COMPANY;
 
 // The most boxes of a company that may fall.
-pub const MOST_FALLS: usize = 31;
+pub const MOST_FALLS: usize = MOST_COMPANY as usize - 1;
 
 // How many boxes the company has, how many of them may fall, and which fall. The proposals stand beside it, since a struct cannot have an
 // array of them where their kind is open.

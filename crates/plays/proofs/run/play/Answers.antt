@@ -1,12 +1,12 @@
 use Rattle.std.proofs.Common.{length}
 use Rattle.rows.specs.Calls.{making}
-use Rattle.scripts.specs.Scripts.{told}
+use Rattle.scripts.specs.Scripts.{contents}
 use Rattle.plays.proofs.Made.{proper, if_ok, goes, made_goes, made_plays}
 use Rattle.plays.proofs.run.play.Goals as goal
 
 pub returns-in_err-ringing-clause-rings : goal.returns-in_err-ringing-clause-rings
 returns-in_err-ringing-clause-rings g c past_end =
-    let p = c.plays_stand.ensures.plays (told c.args.script.now) (proper c.args.script.now) c.args.proposals.now past_end in (p.0, p.1)
+    let p = c.plays_stand.ensures.plays (contents c.args.script.now) (proper c.args.script.now) c.args.proposals.now past_end in (p.0, p.1)
 
 pub play_rounds-requires : goal.play_rounds-requires
 play_rounds-requires g c =
@@ -18,7 +18,7 @@ returns-clause-played g c past_end =
 
 pub returns-clause-rings : goal.returns-clause-rings
 returns-clause-rings g c past_end =
-    let p = c.plays_stand.ensures.plays (told c.args.script.now) (proper c.args.script.now) c.args.proposals.now past_end in (p.0, p.1)
+    let p = c.plays_stand.ensures.plays (contents c.args.script.now) (proper c.args.script.now) c.args.proposals.now past_end in (p.0, p.1)
 
 pub returns-clause-goes : goal.returns-clause-goes
 returns-clause-goes g c past_end =

@@ -6,4 +6,4 @@ pub returns : goal.returns
 returns g c =
     let k = g.K.Kind in
     let m = g.met.K.Kind in
-    record { zero = refl; only = script_only k.SIZE k.image k.named m.only; back = script_back k.SIZE k.image k.named m.long m.small m.back }
+    record { zero = refl; most = refl; only = script_only k.SIZE k.image k.named m.only; back = script_back k.SIZE k.image k.named m.long m.small m.back }
