@@ -1,5 +1,7 @@
 -- The falls that entries tell. Assumes nothing.
-use Rattle.std.proofs.Common.{sym, ◌≡◌, ℕ, suc, ◌<◌, ◌≤◌, Bool, true, false, cond, ◌||◌, eqb, List, [], ◌∷◌, length, is_some, Some, None, Option, refl, ap, ◌∙◌, arith}
+use Rattle.std.proofs.Common.{◌≡◌, ℕ, zero, suc, ◌<◌, ◌≤◌, Bool, true, false, cond, ◌||◌, eqb, ◌⊎◌, List, [], ◌∷◌, length, is_some, Some, None, Option, sym, refl, ap, ◌∙◌, subst, inl, inr, arith}
+use Rattle.std.specs.List.{slice_get}
+use Rattle.std.proofs.lemmas.Bool.{cases_Bool, eqb-true, both_ways}
 use Rattle.std.proofs.lemmas.Bool.Decides.{nat_tests}
 use Rattle.sets.specs.Companies.{bad_lost}
 use Rattle.sets.specs.Tests.{count}
@@ -11,6 +13,7 @@ use Rattle.scripts.specs.declared.entry.Entry.{Entry}
 use Rattle.scripts.specs.Entries.{is_named, fitting}
 use Rattle.scripts.specs.Scripts.{Contents, Proper}
 use Rattle.plays.specs.Plays.{falls_of}
+use Rattle.plays.specs.Theorems.{EntriesCount}
 
 -- ---- entries that a script may have
 
@@ -133,3 +136,28 @@ module _ {K : Type 0} (s : Contents) (p : Proper s) (proposals : ℕ → K) wher
     dated = none_any (λ q. fell_before (so_far b (falls_of s.entries q)) 1) s.n (λ q l. so_far_dated b (falls_of s.entries q) (dated q));
     few = omega (arith, count_le (λ q. is_some (so_far b (falls_of s.entries q))) (λ q. is_some (falls_of s.entries q)) s.n (λ q l. so_far_some b (falls_of s.entries q)), few_fall);
   }
+
+-- ---- each entry counts
+
+-- a box of the later entries is not that of the first
+pub other_named : (e : Entry) (es : List Entry) (q : ℕ) → is_named e.number.0 es ≡ false → is_named q es ≡ true → eqb q e.number.0 ≡ false
+other_named e es q none some = by (cases_Bool (eqb q e.number.0))
+  where
+    by : (eqb q e.number.0 ≡ true) ⊎ (eqb q e.number.0 ≡ false) → eqb q e.number.0 ≡ false
+    by (inl own) = absurd (both_ways (is_named q es) (ap (λ k. is_named k es) (eqb-true q e.number.0 own) ∙ none) some)
+    by (inr other) = other
+
+named_at : (es : List Entry) (i : ℕ) (x : Entry) → slice_get es i ≡ Some x → is_named x.number.0 es ≡ true
+named_at [] i x at = absurd (grind arith)
+named_at (e ∷ es) zero x at = let same : e ≡ x = cc in let k : eqb x.number.0 x.number.0 ≡ true = grind (arith, nat_tests) in grind (arith, nat_tests)
+named_at (e ∷ es) (suc i) x at = let more = named_at es i x at in grind arith
+
+fall_at : (n t : ℕ) (es : List Entry) → fitting n t es ≡ true → (i : ℕ) (x : Entry) → slice_get es i ≡ Some x → falls_of es x.number.0 ≡ Some (fall_by x)
+fall_at n t [] is i x at = absurd (grind arith)
+fall_at n t (e ∷ es) is zero x at = let same : e ≡ x = cc in subst (λ y. falls_of (e ∷ es) y.number.0 ≡ Some (fall_by y)) same (falls_first e es)
+fall_at n t (e ∷ es) is (suc i) x at =
+    let f = fit_of n t e es is in
+    falls_other e es x.number.0 (other_named e es x.number.0 f.unnamed (named_at es i x at)) ∙ fall_at n t es f.others i x at
+
+pub entries_count : EntriesCount
+entries_count s p = (λ i e at. fall_at s.n s.t s.entries p.fitting i e at, λ q none. unnamed_stands q s.entries none)

@@ -8,7 +8,7 @@ use Rattle.std.proofs.lemmas.Option.{slice_get_within, get_or_from_slice_get}
 use Rattle.numbers.specs.declared.refusal.Refusal.{Refusal}
 use Rattle.numbers.specs.declared.refusal.Refusal.TheVariants.{Narrow}
 use Rattle.numbers.specs.Numbers.{room_for}
-use Rattle.sets.specs.Companies.{company}
+use Rattle.sets.specs.Companies.{company, most_company}
 use Rattle.sets.specs.Masks.{member}
 use Rattle.sets.proofs.Members.{member_is, all_within}
 use Rattle.frames.specs.Faults.{map_fault}
@@ -22,11 +22,12 @@ use Rattle.rows.specs.Theorems.{MakeAccepted}
 use Rattle.runs.specs.Runs.{row_by, state_by}
 use Rattle.runs.proofs.Pictured.{row_length}
 use Rattle.scripts.specs.Scripts.{Contents, Proper}
-use Rattle.scripts.specs.Reading.{filled}
+use Rattle.scripts.specs.Reading.{read_script, filled}
+use Rattle.scripts.specs.Theorems.{Stands}
 use Rattle.reports.specs.Reports.{report_text, reporting, told, laid}
 use Rattle.reports.specs.Theorems.{longest_report, IsEarly, ReportLength}
 use Rattle.plays.specs.Plays.{falls_of, ring_round, history_of, script_played}
-use Rattle.plays.specs.Theorems.{ScriptPlays}
+use Rattle.plays.specs.Theorems.{ScriptPlays, BytesPlay}
 use Rattle.plays.proofs.Entries.{so_far_before}
 
 -- ---- a new wire
@@ -47,9 +48,10 @@ module _ (n a t : ℕ) (size : company n t ≡ true) (same : a ≡ n) where
   unfolding wire.making
   new_wire m is = let k = ap wire.making same in grind (arith, nat_tests)
 
-  pub not_refused : {P : Type 0} (e : Refusal) → Err e ≡ wire.making a → P
+  pub board_made : {B : Type 0} (meaning : B → Meaning) (r : Result B Refusal) → result_map_both meaning (λ e. e) r ≡ wire.making a → IsOk r
   unfolding wire.making
-  not_refused e is = absurd (let k = ap wire.making same in grind (arith, nat_tests))
+  board_made meaning (Ok b) is = refl
+  board_made meaning (Err e) is = absurd (let k = ap wire.making same in grind (arith, nat_tests))
 
 -- ---- all of a list
 
@@ -88,8 +90,10 @@ module _ {K : Type 0} (leads : K → K → Bool) (image : K → List ℕ) (accep
       pub ends_so : (x : State K) → Ok x ≡ map_fault {E = W × Refusal} (λ e. (w, e)) (script_played leads image s m places proposals past_end) → x ≡ end
       ends_so x is = let e = ap (map_fault {E = W × Refusal} (λ e. (w, e))) played_here in cc
 
-      pub plays_on : {P : Type 0} (v : W) (e : Refusal) → Err (v, e) ≡ map_fault {E = W × Refusal} (λ e. (w, e)) (script_played leads image s m places proposals past_end) → P
-      plays_on v e is = absurd (let k = ap (map_fault {E = W × Refusal} (λ e. (w, e))) played_here in grind arith)
+      pub plays_on : {R : Type 0} (shown : R → State K) (r : Result R (W × Refusal))
+          → result_map_both shown (λ e. e) r ≡ map_fault {E = W × Refusal} (λ e. (w, e)) (script_played leads image s m places proposals past_end) → IsOk r
+      plays_on shown (Ok x) is = refl
+      plays_on shown (Err e) is = absurd (let k = ap (map_fault {E = W × Refusal} (λ e. (w, e))) played_here in grind arith)
 
     module _ (plays : ScriptPlays leads image) where
       rests : (bad_row end ≡ false) × (over end ≡ true)
@@ -150,3 +154,13 @@ line_fits text out fits = (let k : leb (length text) (length out) ≡ true = gri
 pub told_fits : (r : Result (List ℕ) Refusal) (out new : List ℕ) (k : ℕ) → Ok k ≡ told r → new ≡ laid out r → k ≤ length new
 told_fits (Ok text) out new k is written = (let l = ap length written in let a = length-append text (drop (length text) out) in grind arith)
 told_fits (Err e) out new k is written = absurd (grind arith)
+
+-- ---- what comes of bytes
+
+pub bytes_play : {K : Type 0} (leads : K → K → Bool) (image : K → List ℕ) (size : ℕ) (named : List ℕ → Option K) (bytes : List ℕ) → MakeAccepted K → ScriptPlays leads image
+    → ((s : Contents) (ps : List K) → read_script size named most_company bytes ≡ Ok (s, ps) → Stands most_company s ps) → BytesPlay leads image size named bytes
+bytes_play leads image size named bytes accepted plays stands s ps past_end is =
+    let k = stands s ps is in
+    let e = plays s k.proper ps past_end in
+    let m = made leads image accepted s k.proper ps k.whole in
+    (e.0, e.1, (first leads image accepted s k.proper ps k.whole, m, e.2 s.n (fresh s.n) (first leads image accepted s k.proper ps k.whole) (fresh_formed s.n s.t k.proper.size) m))

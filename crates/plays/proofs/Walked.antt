@@ -18,7 +18,7 @@ use Rattle.scripts.specs.declared.entry.Entry.{Entry}
 use Rattle.scripts.specs.Entries.{is_named, fitting}
 use Rattle.scripts.specs.Scripts.{Contents, Proper}
 use Rattle.plays.specs.Plays.{told_before, falls_of, ring_round}
-use Rattle.plays.proofs.Entries.{Fits, fit_of, fall_by, falls_first, falls_other, unnamed_stands, so_far_some, history_all, all_allowed, few_fall}
+use Rattle.plays.proofs.Entries.{Fits, fit_of, fall_by, falls_first, falls_other, other_named, unnamed_stands, so_far_some, history_all, all_allowed, few_fall}
 
 -- ---- the falls, once those of a round were told
 
@@ -77,14 +77,6 @@ ready r es = record {
   where
     again : (o : Option Fall) → so_far r (so_far r o) ≡ so_far r o
     again o = grind arith
-
--- a box of the later entries is not that of the first
-other_named : (e : Entry) (es : List Entry) (q : ℕ) → is_named e.number.0 es ≡ false → is_named q es ≡ true → eqb q e.number.0 ≡ false
-other_named e es q none some = by (cases_Bool (eqb q e.number.0))
-  where
-    by : (eqb q e.number.0 ≡ true) ⊎ (eqb q e.number.0 ≡ false) → eqb q e.number.0 ≡ false
-    by (inl own) = absurd (both_ways (is_named q es) (ap (λ k. is_named k es) (eqb-true q e.number.0 own) ∙ none) some)
-    by (inr other) = other
 
 module _ (n t r : ℕ) (f g : Falls) (e : Entry) (es : List Entry) (fits : Fits n t e es) (k : Ready r f g (e ∷ es)) where
   named_first : is_named e.number.0 (e ∷ es) ≡ true

@@ -1,7 +1,8 @@
 -- What playing a script comes to. Assumes nothing.
 use Rattle.std.specs.Prelude.{◌≡◌, ℕ, ◌+◌, ◌<◌, ◌≤◌, Bool, true, false, Option, List, Some, None, Ok}
 use Rattle.std.specs.List.{slice_get}
-use Rattle.wire.specs.Meaning.{Meaning, WellFormed}
+use Rattle.sets.specs.Companies.{most_company}
+use Rattle.wire.specs.Meaning.{Meaning, WellFormed, fresh}
 use Rattle.rule.specs.declared.falls.Fall.{Fall}
 use Rattle.rule.specs.Falls.{closes}
 use Rattle.rule.specs.Histories.{History, Allowed, ringing_round}
@@ -11,8 +12,11 @@ use Rattle.rows.specs.declared.place.Blow.TheVariants.{Rings}
 use Rattle.rows.specs.Places.{down, rung}
 use Rattle.rows.specs.Calls.{State, making, bad_row, over}
 use Rattle.runs.specs.Runs.{state_after, all_accepted, row_by, state_by}
+use Rattle.scripts.specs.declared.entry.Entry.{Entry}
+use Rattle.scripts.specs.Entries.{is_named}
 use Rattle.scripts.specs.Scripts.{Contents, Proper}
-use Rattle.plays.specs.Plays.{calls_to, ring_round, history_of}
+use Rattle.scripts.specs.Reading.{read_script}
+use Rattle.plays.specs.Plays.{calls_to, falls_of, ring_round, history_of}
 
 -- a history ends in the round in which its boxes ring: it keeps the limits; its last round is t + 1 - D, D taken over the rounds closed, and one of 1 to
 -- t + 1; nobody rang before; all boxes that closed it ring in it, and one at least; they do so on one estimate, which a box proposed, and no ringing box
@@ -53,3 +57,15 @@ ScriptPlays {K} leads image = (s : Contents) → Proper s → (proposals : List 
     EndsRinging leads h × AllRing leads h
     × ((places : ℕ) (m : Meaning) (first : State K) → WellFormed m → making s.n s.t m places proposals ≡ Ok first
     → GoesTo leads image m.posted s h first)
+
+-- bytes that are a script are played so on a new wire, where making a ringing for it is not refused
+abbrev pub BytesPlay : {K : Type 0} → (K → K → Bool) → (K → List ℕ) → ℕ → (List ℕ → Option K) → List ℕ → Type 0
+BytesPlay {K} leads image size named bytes = (s : Contents) (proposals : List K) (past_end : K) → read_script size named most_company bytes ≡ Ok (s, proposals)
+    → let h = history_of s proposals past_end in
+    EndsRinging leads h × AllRing leads h × ((first : State K) × (making s.n s.t (fresh s.n) s.n proposals ≡ Ok first) × GoesTo leads image (λ _. None) s h first)
+
+-- each entry counts, wherever it stands: the fall of a box is that of the entry that names it, and a box that none names does not fall
+abbrev pub EntriesCount : Type 0
+EntriesCount = (s : Contents) → Proper s
+    → ((i : ℕ) (e : Entry) → slice_get s.entries i ≡ Some e → falls_of s.entries e.number.0 ≡ Some (record { round = e.round; lost = e.lost }))
+    × ((q : ℕ) → is_named q s.entries ≡ false → falls_of s.entries q ≡ None)

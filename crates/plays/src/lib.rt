@@ -1,10 +1,10 @@
 // Playing a script: its company rings over a wire.
 #![tactic(auto)]
 
+mod answer;
 mod run;
-mod text;
 mod theorems;
 
+pub use answer::write_answer;
 pub use run::play;
-pub use text::answer;
 pub use theorems::plays_stand;

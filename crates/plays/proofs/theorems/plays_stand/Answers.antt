@@ -1,4 +1,5 @@
 use Rattle.std.proofs.Common.{arith}
+use Rattle.plays.proofs.Entries.{entries_count}
 use Rattle.plays.proofs.Playing.{script_plays}
 use Rattle.plays.proofs.theorems.plays_stand.Goals as goal
 
@@ -10,3 +11,6 @@ returns-clause-plays g c =
     let k = g.K.Kind in
     let rule = c.rule_stands.ensures in
     script_plays k.leads k.image rule.agree rule.remains rule.past rule.coming c.calls_follow.ensures.follow
+
+pub returns-clause-entries : goal.returns-clause-entries
+returns-clause-entries g c = entries_count

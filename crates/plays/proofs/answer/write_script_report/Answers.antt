@@ -6,11 +6,8 @@ use Rattle.scripts.specs.Reading.{read_script}
 use Rattle.reports.specs.Reports as reports
 use Rattle.plays.specs.Plays.{history_of}
 use Rattle.plays.proofs.Made.{proper}
-use Rattle.plays.proofs.Reported.{read_ok, bytes_small, laid_first, ok_same, report_is}
-use Rattle.plays.proofs.text.write_script_report.Goals as goal
-
-pub returns-in_err-ringing : goal.returns-in_err-ringing
-returns-in_err-ringing c past_end = absurd (let e = c.in_err-ringing.ensures past_end in grind arith)
+use Rattle.plays.proofs.Reported.{read_ok, bytes_small, laid_first, report_is}
+use Rattle.plays.proofs.answer.write_script_report.Goals as goal
 
 pub returns : goal.returns
 returns c past_end =
@@ -19,6 +16,6 @@ returns c past_end =
     let read = read_ok r (contents s) c.in_ok-script.ensures.script in
     let stands = (c.scripts_stand.ensures.only 32 c.args.bytes.now (contents s) read.0 (bytes_small c.args.bytes.now c.type_inv.bytes) read.1).0 in
     let same = laid_first r (contents s) read.0 _ c.read_script.new.places c.n-n.result read.1 c.in_ok-script.ensures.places (let n = c.n-n.ensures in let l = stands.whole in omega arith) in
-    let there = ok_same _ _ (c.in_ok-ringing.ensures past_end) ∙ ap (λ ps. state_by piece_leads (history_of (contents s) ps past_end) piece_image (λ _. None)) same in
+    let there = c.play_on_board-ringing.ensures past_end ∙ ap (λ ps. state_by piece_leads (history_of (contents s) ps past_end) piece_image (λ _. None)) same in
     let is = report_is piece_leads piece_image c.rows_stand.ensures.made c.plays_stand.ensures.plays c.reports_stand.ensures.report r (contents s) (proper s) read.0 read.1 stands.whole past_end _ there (length c.args.out.now) c.requires in
     (c.write_report.ensures.told ∙ ap reports.told is, c.write_report.ensures.bytes ∙ ap (reports.laid c.args.out.now) is)

@@ -1,5 +1,5 @@
 // What is answered to the bytes of a script of pieces: they are read and played on a board.
-ghost use Rattle.std.specs.Prelude.{◌≡◌, ◌≤◌, ◌++◌, length, drop, None, Ok};
+ghost use Rattle.std.specs.Prelude.{◌≡◌, ◌≤◌, ◌++◌, length, drop, None};
 ghost use Rattle.std.specs.Result.{result_map_both};
 ghost use Rattle.kinds.specs.Pieces.{piece_leads, piece_image, piece_named};
 ghost use Rattle.wire.specs.Boards.{board_meaning};
@@ -9,6 +9,7 @@ ghost use Rattle.scripts.specs.Scripts.{contents};
 ghost use Rattle.reports.specs.Reports.{laid};
 ghost use Rattle.reports.specs.Theorems.{longest_report};
 ghost use Rattle.plays.specs.Plays.{history_of};
+ghost use Rattle.plays.specs.Theorems.{BytesPlay};
 ghost use Rattle.plays.specs.Answers.{script_report, answer_text};
 
 use super::run::play;
@@ -25,22 +26,15 @@ use wire::Board;
 // Places for the boxes of the largest company.
 const PLACES: usize = MOST_COMPANY as usize;
 
-// Plays a script with these pieces on a board. It is not refused.
-fn play_on_board(
-    script: &Script,
-    pieces: &[Piece],
-    row: &mut [Place<Piece>],
-) -> Result<Ringing<Board>, Refusal>
+// Plays a script with these pieces on a board. With `unwrap` it is proved that nothing is refused.
+fn play_on_board(script: &Script, pieces: &[Piece], row: &mut [Place<Piece>]) -> Ringing<Board>
     requires pieces { length pieces.now ≡ script.now.n }
     requires row { length row.old ≡ script.now.n }
-    ensures { (past_end : Piece) → result_map_both (λ r. state (board_meaning r.wire) r.t r.closed row.new) (λ e. e) result ≡ Ok (state_by piece_leads (history_of (contents script.now) pieces.now past_end) piece_image (λ _. None)) }
+    ensures { (past_end : Piece) → state (board_meaning result.wire) result.t result.closed row.new ≡ state_by piece_leads (history_of (contents script.now) pieces.now past_end) piece_image (λ _. None) }
 {
     let _ = rows_stand::<Piece>();
-    let board = Board::new(script.n())?;
-    match play(script, pieces, board, row) {
-        Ok(ringing) => Ok(ringing),
-        Err((_, refusal)) => Err(refusal),
-    }
+    let board = Board::new(script.n()).unwrap();
+    play(script, pieces, board, row).unwrap()
 }
 
 // Writes the report of the script to the front of `out`, or tells why the bytes are none.
@@ -52,22 +46,26 @@ fn write_script_report(bytes: &[u8], out: &mut [u8]) -> Result<usize, Refusal>
     let _ = rows_stand::<Piece>();
     let _ = plays_stand::<Piece>();
     let _ = reports_stand::<Piece>();
-    let mut pieces = [Piece::new(0)?; PLACES];
+    let mut pieces = [Piece::new(0).unwrap(); PLACES];
     let mut places = [Place::Down(RoundNumber(0)); PLACES];
     let script = read_script(bytes, &mut pieces)?;
     let n = script.n() as usize;
     let row = &mut places[..n];
-    let ringing = play_on_board(&script, &pieces[..n], row)?;
+    let ringing = play_on_board(&script, &pieces[..n], row);
     write_report(&ringing, row, out)
 }
 
 // Writes what is answered to these bytes to the front of `out`, and tells its length: the report of the script as it rings by the rule, or the line
 // of the refusal.
-pub fn answer(bytes: &[u8], out: &mut [u8; LONGEST_REPORT]) -> usize
+pub fn write_answer(bytes: &[u8], out: &mut [u8; LONGEST_REPORT]) -> usize
     ensures told { (past_end : Piece) → result ≡ length (answer_text piece_leads piece_image 1 piece_named bytes.now past_end) }
     ensures room { result ≤ LONGEST_REPORT }
     ensures bytes { (past_end : Piece) → let text = answer_text piece_leads piece_image 1 piece_named bytes.now past_end in out.new ≡ text ++ drop (length text) out.old }
+    ensures plays { BytesPlay piece_leads piece_image 1 piece_named bytes.now }
 {
+    let _ = scripts_stand::<Piece>();
+    let _ = rows_stand::<Piece>();
+    let _ = plays_stand::<Piece>();
     let _ = reports_stand::<Piece>();
     match write_script_report(bytes, out) {
         Ok(length) => length,
