@@ -41,14 +41,14 @@ module _ {K : Type 0} {leads : K → K → Bool} {image : K → List ℕ} (plays
     goes past_end = (plays (contents s) (proper s) proposals past_end).2 places m first formed made
 
   module _ {W : Type 0} (w : W) {a b : ℕ} (an : a ≡ s.n) (bt : b ≡ s.t) {first : State K} (is : Ok first ≡ map_fault {E = W × Refusal} (λ e. (w, e)) (making a b m places proposals)) where
-    made : making s.n s.t m places proposals ≡ Ok first
-    made = made_for w s.n s.t a b m places proposals first an bt is
+    pub made_so : making s.n s.t m places proposals ≡ Ok first
+    made_so = made_for w s.n s.t a b m places proposals first an bt is
 
     pub made_goes : CallsGo leads image (contents s) first
-    made_goes = (goes made (some made)).0
+    made_goes = (goes made_so (some made_so)).0
 
     pub made_plays : {end : State K} (past_end : K) → end ≡ state_after leads image (calls_to s.entries.items (ring_round (contents s))) first
         → Ok end ≡ map_fault {E = W × Refusal} (λ e. (w, e)) (script_played leads image (contents s) m places proposals past_end)
     made_plays past_end lead =
-        ap Ok (lead ∙ (goes made past_end).1)
-        ∙ ap (λ r. map_fault {E = W × Refusal} (λ e. (w, e)) (result_map_both (λ _. state_by leads (history_of (contents s) proposals past_end) image m.posted) (λ x. x) r)) (sym made)
+        ap Ok (lead ∙ (goes made_so past_end).1)
+        ∙ ap (λ r. map_fault {E = W × Refusal} (λ e. (w, e)) (result_map_both (λ _. state_by leads (history_of (contents s) proposals past_end) image m.posted) (λ x. x) r)) (sym made_so)

@@ -132,9 +132,6 @@ bytes_small bytes fits = all_at (λ b. b < 256) bytes (λ p x at. let e = get_or
 pub laid_first : {K : Type 0} (r : Result (Contents × List K) Refusal) (s : Contents) (ps old new : List K) (n : ℕ) → r ≡ Ok (s, ps) → new ≡ filled r old → length ps ≡ n → take n new ≡ ps
 laid_first r s ps old new n is laid long = ap (take n) (laid ∙ ap (λ x. filled x old) is) ∙ take_at ps (drop (length ps) old) n long
 
-pub ok_same : {X E : Type 0} (x y : X) → ◌≡◌ {A = Result X E} (Ok x) (Ok y) → x ≡ y
-ok_same x y e = cc
-
 pub read_ok : {K : Type 0} (r : Result (Contents × List K) Refusal) (s : Contents) → Ok s ≡ result_map_both (λ x. x.0) (λ e. e) r → (ps : List K) × (r ≡ Ok (s, ps))
 read_ok (Ok x) s is = (x.1, (let k : x.0 ≡ s = cc in λ i. Ok (k i, x.1)))
 read_ok (Err e) s is = absurd (grind arith)

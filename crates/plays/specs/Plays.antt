@@ -34,11 +34,13 @@ unfoldable pub falls_of : List Entry → Falls
 falls_of [] = no_falls
 falls_of (e ∷ es) = with_fall e.round.0 e.number.0 e.lost (falls_of es)
 
--- the round t + 1 - D, where D is the most by which the boxes found missing in a round of the script, up to t + 1, exceed its number
+-- the round t + 1 - D, where D is the most by which the boxes found missing in a round of the script, up to t + 1, exceed its number. D over the
+-- rounds closed by then is the same (EndsRinging)
 abbrev pub ring_round : Contents → ℕ
 ring_round s = s.t + 1 - waste (falls_of s.entries) s.n (s.t + 1)
 
--- the history of a script with these proposals after that round. Entries of later rounds do not come about
+-- the history of a script with these proposals after that round. Entries of later rounds do not come about, and what stands for numbers past the
+-- proposals does not count
 abbrev pub history_of : {K : Type 0} → Contents → List K → K → History K
 history_of s proposals past_end = record {
   n = s.n;

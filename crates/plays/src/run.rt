@@ -3,7 +3,7 @@ ghost use Rattle.std.specs.Prelude.{◌≡◌, ◌+◌, ◌≤◌, ℕ, true, Li
 ghost use Rattle.std.specs.Result.{result_map_both};
 ghost use Rattle.frames.specs.Faults.{map_fault};
 ghost use Rattle.rule.specs.Histories.{History};
-ghost use Rattle.rows.specs.Calls.{making, over};
+ghost use Rattle.rows.specs.Calls.{making, over, answer};
 ghost use Rattle.runs.specs.Runs.{state_after, all_accepted};
 ghost use Rattle.ringing.specs.States.{state};
 ghost use Rattle.scripts.specs.Scripts.{contents};
@@ -20,7 +20,7 @@ use scripts::{Entry, Script};
 use sets::RoundNumber;
 use wire::Wire;
 
-// Tells the falls of a round. None is refused, so `unwrap` checks nothing.
+// Tells the falls of a round. With `unwrap` it is proved of each call here that it is not refused.
 fn tell_falls<W: Wire, K: Kind>(
     entries: &[Entry],
     round: RoundNumber,
@@ -37,7 +37,7 @@ fn tell_falls<W: Wire, K: Kind>(
     }
 }
 
-// Plays a round, before which its falls are told, and tells whether the boxes ring then. No call is refused.
+// Tells the falls of a round and plays it, and tells whether the boxes ring then.
 fn play_round<W: Wire, K: Kind>(
     entries: &[Entry],
     round: RoundNumber,
@@ -67,14 +67,15 @@ fn play_rounds<W: Wire, K: Kind>(script: &Script, ringing: &mut Ringing<W>, row:
 }
 
 // Plays a script with these proposals over a wire: a ringing is made, each round's falls are told before it, and the rounds are played until the boxes
-// ring. It refuses what making does, gives the wire back then and leaves the row as it was; after that no call is refused, and the boxes ring in
-// round t + 1 - D with what the rule gives them.
+// ring. It refuses what making refuses, gives the wire back then and leaves the row as it was. Once a ringing is made, each call of the script
+// is accepted, and the boxes ring in round t + 1 - D with what the rule gives them.
 pub fn play<W: Wire, K: Kind>(
     script: &Script,
     proposals: &[K],
     wire: W,
     row: &mut [Place<K>],
 ) -> Result<Ringing<W>, (W, Refusal)>
+    ensures answer { result_map_both (λ _. tt) (λ e. e) result ≡ map_fault (λ e. (wire, e)) (answer (making script.now.n script.now.t (W.meaning wire) (length row.old) proposals.now)) }
     ensures played { (past_end : K) → result_map_both (λ r. state (W.meaning r.wire) r.t r.closed row.new) (λ e. e) result ≡ map_fault (λ e. (wire, e)) (script_played K.leads K.image (contents script.now) (W.meaning wire) (length row.old) proposals.now past_end) }
     ensures refused { OnErr result (row.new ≡ row.old) }
     ensures rings { (past_end : K) → let h = history_of (contents script.now) proposals.now past_end in EndsRinging K.leads h × AllRing K.leads h }

@@ -1,7 +1,7 @@
-use Rattle.std.proofs.Common.{length}
+use Rattle.std.proofs.Common.{length, arith}
 use Rattle.rows.specs.Calls.{making}
 use Rattle.scripts.specs.Scripts.{contents}
-use Rattle.plays.proofs.Made.{proper, if_ok, goes, made_goes, made_plays}
+use Rattle.plays.proofs.Made.{proper, if_ok, goes, made_so, made_goes, made_plays}
 use Rattle.plays.proofs.run.play.Goals as goal
 
 pub returns-in_err-ringing-clause-rings : goal.returns-in_err-ringing-clause-rings
@@ -24,3 +24,8 @@ pub returns-clause-goes : goal.returns-clause-goes
 returns-clause-goes g c past_end =
     if_ok _ (making c.args.script.now.n c.args.script.now.t (g.W.Wire.meaning c.args.wire) (length c.args.row.now) c.args.proposals.now) (λ first made.
     goes c.plays_stand.ensures.plays c.args.script.now (g.met.W.Wire.formed c.args.wire) _ _ made past_end)
+
+pub returns-clause-answer : goal.returns-clause-answer
+returns-clause-answer g c =
+    let made = made_so c.plays_stand.ensures.plays c.args.script.now (g.met.W.Wire.formed c.args.wire) _ _ _ c.n.ensures c.t.ensures c.in_ok-ringing.ensures.ringing in
+    grind arith
