@@ -29,7 +29,7 @@ pub enum Refusal {
     Tally = 10,
     // n or t is outside its limits.
     Company = 11,
-    // The row does not belong to this ringing as it stands.
+    // The row does not belong to this ringing as it stands, or there are not as many places as are needed.
     Row = 12,
     // The wire does not fit a new ringing.
     Wire = 13,

@@ -120,6 +120,6 @@ refusal_length e =
 
 pub examples : Examples
 unfolding digits spaced line report_text refusal_line
-examples = ((λ b. refl), refl, refl)
+examples = (refl, (λ b. refl), refl)
 
 pub ruleset tells = (spaced-nil, spaced-cons, spaced-more, report-nil)

@@ -9,12 +9,12 @@ use Rattle.rows.specs.declared.place.Blow.TheVariants as blow
 use Rattle.rows.specs.Places.{Stand, at_rest, down, rung}
 use Rattle.reports.specs.Reports.{refusal_line, report_text}
 
--- the most bytes of a report in which every round has at most two digits: 32 lines with two digits of the box, six of the word, two of the
--- round and nine of each of four numbers, a space before each but the first, and the end of the line
+-- no report in which every round has at most two digits has more bytes: 32 lines with two digits of the box, six of the word, two of the round and
+-- nine of each of four numbers, a space before each but the first, and the end of the line
 abbrev pub longest_report : ℕ
 longest_report = 1696
 
--- the most bytes of the line of a refusal
+-- no line of a refusal has more bytes
 abbrev pub longest_refusal : ℕ
 longest_refusal = 11
 
@@ -32,13 +32,13 @@ ReportLength {K} image = (row : List (Stand K)) → length row ≤ most_company 
 abbrev pub RefusalLength : Type 0
 RefusalLength = (e : Refusal) → length (refusal_line e) ≤ longest_refusal
 
--- a box that rings in round 3 on this number
-abbrev rings : ℕ → Stand ℕ
+-- a box that rings in round 3 on this pair of numbers
+abbrev rings : ℕ × ℕ → Stand (ℕ × ℕ)
 rings v = rung (record { round = record { 0 = 3 }; proposal = v; blow = blow.Rings })
 
--- boxes that propose a number each: two reports, and the line of a refusal
+-- boxes that propose a pair of numbers each, the first of which may be the whole image: two reports, and the line of a refusal
 abbrev pub Examples : Type 0
 Examples =
-    ((b : Held ℕ) → report_text (λ v. v ∷ []) (at_rest b ∷ at_rest b ∷ down (record { 0 = 1 }) ∷ at_rest b ∷ []) ≡ codes "0 up\n1 up\n2 down 1\n3 up\n")
-    × (report_text (λ v. v ∷ []) (rings 20 ∷ rings 20 ∷ down (record { 0 = 1 }) ∷ rings 20 ∷ []) ≡ codes "0 rings 3 20\n1 rings 3 20\n2 down 1\n3 rings 3 20\n")
+    (report_text (λ v. v.0 ∷ []) (rings (20, 0) ∷ rings (20, 0) ∷ down (record { 0 = 1 }) ∷ rings (20, 0) ∷ []) ≡ codes "0 rings 3 20\n1 rings 3 20\n2 down 1\n3 rings 3 20\n")
+    × ((b : Held (ℕ × ℕ)) → report_text (λ v. v.0 ∷ v.1 ∷ []) (at_rest b ∷ rings (9, 16383) ∷ []) ≡ codes "0 up\n1 rings 3 9 16383\n")
     × (refusal_line Silent ≡ codes "refused 17\n")

@@ -12,15 +12,15 @@ use rows::{Place, is_over};
 use sets::BoxNumber;
 use wire::Wire;
 
-// The most bytes of a report in which every round is below 100.
+// No report in which every round is below 100 is longer.
 pub const LONGEST_REPORT: usize = 1696;
 
-// The most bytes of the line of a refusal.
+// No line of a refusal is longer.
 pub const LONGEST_REFUSAL: usize = 11;
 
-// Writes the report to the front of `out` and tells its length: for each box in order a line with its number, the word for what is told of it,
-// the round if there is one, and the numbers of its proposal if it rings. Where it is refused, nothing is touched. Asking
-// judges the row, whichever box is asked of.
+// Writes the report to the front of `out` and tells its length: for each box in order a line with its number, the word for what is told of it, the
+// round if there is one, and the numbers of its proposal's image if it rings. Where it is refused, nothing is touched. Asking of a box of the company
+// judges the row, and box 0 is in every company.
 pub fn write_report<W: Wire, K: Kind>(
     ringing: &Ringing<W>,
     row: &[Place<K>],

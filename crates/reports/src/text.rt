@@ -15,6 +15,9 @@ use sets::{BoxNumber, MOST_COMPANY};
 // Room for a line: number, word, round and four numbers of an image, a space before each but the first, and the end.
 const LINE_ROOM: usize = 10 + 7 + 11 + 4 * 11 + 1;
 
+// Room for the line of a refusal: the word, a space, three digits, as the number is a byte, and the end.
+const REFUSAL_ROOM: usize = 7 + 1 + 3 + 1;
+
 const REPORT_ROOM: usize = MOST_COMPANY as usize * LINE_ROOM;
 
 // Appends a space and the number.
@@ -87,9 +90,9 @@ pub(crate) fn report_text<K: Kind>(row: &[Place<K>]) -> ArrayVec<u8, REPORT_ROOM
     text
 }
 
-// The line of a refusal; as a byte, its number has three digits at most.
+// The line of a refusal.
 #[tactic(auto, unfolding(crate::specs::Reports::refusal_line))]
-pub(crate) fn refusal_text(refusal: Refusal) -> ArrayVec<u8, 12>
+pub(crate) fn refusal_text(refusal: Refusal) -> ArrayVec<u8, REFUSAL_ROOM>
     ensures { result.items ≡ refusal_line refusal }
 {
     let mut text = ArrayVec::new();
