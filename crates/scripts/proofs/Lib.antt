@@ -3,3 +3,4 @@ pub mod Heads
 pub mod Fitting
 pub mod Whole
 pub mod Trips
+pub mod Worked

@@ -1,4 +1,5 @@
 pub mod Entries
 pub mod Scripts
 pub mod Reading
+pub mod Examples
 pub mod Theorems
