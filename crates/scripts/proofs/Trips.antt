@@ -22,11 +22,10 @@ use Rattle.scripts.specs.declared.reader.Head.{Head}
 use Rattle.scripts.specs.Scripts.{Contents}
 use Rattle.scripts.specs.Entries.{is_named, bad_round, fits, fitting}
 use Rattle.scripts.specs.Reading.{number_at, read_head, several, proposal_at, entry_at, read_entries, read_script}
-use Rattle.scripts.specs.Theorems.{entry_numbers, script_numbers, Stands, ScriptOnly, ScriptBack}
+use Rattle.scripts.specs.Theorems.{entry_numbers, script_numbers, Stands, ScriptOnly, ScriptBack, ScriptSurplus}
 use Rattle.scripts.proofs.Heads.{head_is}
 use Rattle.scripts.proofs.Fitting.{EntryRead, entry_read, entries_read, entries_fit, unless_one}
 use Rattle.scripts.proofs.Several.{several_none, several_more, several_keeps, several_length}
-use Rattle.scripts.proofs.Whole.{script_is}
 
 mapped : {X D E : Type 0} (up : D → E) (r : Result X D) (x : X) → map_fault up r ≡ Ok x → r ≡ Ok x
 mapped up (Ok y) x is = cc
@@ -261,22 +260,33 @@ module _ {K : Type 0} (size : ℕ) (image : K → List ℕ) (named : List ℕ �
     image_back : (bytes : List ℕ) (x : K) (place : ℕ) (behind : List ℕ) → drop place bytes ≡ written_all (image x) ++ behind → proposal_at size named bytes place ≡ Ok (x, place + length (written_all (image x)))
     image_back bytes x place behind is = rw (proposal_judged size named bytes (image x) behind place (wide (image x) (low x)) (long x) is, back x) refl
 
-    pub script_back : ScriptBack size image named
-    script_back places s ps st =
-        let bytes = written_all (script_numbers image s ps) in
+    -- a script that there may be is refused just if bytes stand behind it
+    script_judged : (places : ℕ) (s : Contents) (ps : List K) (behind : List ℕ) → Stands places s ps
+        → read_script size named places (written_all (script_numbers image s ps) ++ behind) ≡ unless ((nat_lt 0 (length behind), Surplus) ∷ []) (s, ps)
+    unfolding read_script
+    script_judged places s ps behind st =
+        let bytes = written_all (script_numbers image s ps) ++ behind in
         let images = flat_map image ps in
         let numbers = flat_map entry_numbers s.entries in
-        let is₀ = sym (append-nil bytes) ∙ parts_are s.n s.t images (length s.entries) numbers [] in
+        let is₀ = parts_are s.n s.t images (length s.entries) numbers behind in
         let is₁ = rest_of bytes 0 (written s.n) _ is₀ in
         let is₂ = rest_of bytes (0 + length (written s.n)) (written s.t) _ is₁ in
         let from = 0 + length (written s.n) + length (written s.t) in
         let is₃ = rest_of bytes from (written_all images) _ is₂ in
         let is₄ = rest_of bytes (from + length (written_all images)) (written (length s.entries)) _ is₃ in
         let end = from + length (written_all images) + length (written (length s.entries)) + length (written_all numbers) in
-        let none : drop end bytes ≡ [] = rest_of bytes (from + length (written_all images) + length (written (length s.entries))) (written_all numbers) [] is₄ in
-        let over : length bytes ≤ end = omega (arith, ap length none, length-drop end bytes) in
+        let rest : drop end bytes ≡ behind = rest_of bytes (from + length (written_all images) + length (written (length s.entries))) (written_all numbers) behind is₄ in
+        let more : nat_lt end (length bytes) ≡ nat_lt 0 (length behind) = grind (arith, nat_tests, ap length rest, length-drop end bytes) in
         let h = head_back places s.n s.t bytes _ st.proper.size st.room is₀ in
         let one = λ (_ : List K). proposal_at size named bytes in
         let p = several_back image one bytes (λ _ _. Unit {0}) (λ _ x place behind _ is. image_back bytes x place behind is) [] ps from from _ (several_none one from) (any_may [] ps) is₂ in
-        let q = entries_back s.n s.t bytes (from + length (written_all images)) s.entries [] st.proper.size st.proper.fitting st.proper.few st.masks is₃ in
-        script_is size named places bytes _ h ps _ (rw st.whole at p) s.entries end q over
+        let q = entries_back s.n s.t bytes (from + length (written_all images)) s.entries behind st.proper.size st.proper.fitting st.proper.few st.masks is₃ in
+        rw (h, rw st.whole at p, q, more) refl
+
+    pub script_back : ScriptBack size image named
+    script_back places s ps st = ap (read_script size named places) (sym (append-nil _)) ∙ script_judged places s ps [] st
+
+    pub script_surplus : ScriptSurplus size image named
+    script_surplus places b behind s ps st =
+        let some : nat_lt 0 (length (b ∷ behind)) ≡ true = grind (arith, nat_tests) in
+        script_judged places s ps (b ∷ behind) st ∙ rw some refl

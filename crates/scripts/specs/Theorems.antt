@@ -1,6 +1,7 @@
 -- What the bytes of a script are for. Assumes nothing.
-use Rattle.std.specs.Prelude.{◌≡◌, ℕ, ◌^◌, ◌<◌, ◌≤◌, List, [], ◌∷◌, ◌++◌, length, Ok, Option}
+use Rattle.std.specs.Prelude.{◌≡◌, ℕ, ◌^◌, ◌<◌, ◌≤◌, List, [], ◌∷◌, ◌++◌, length, Ok, Err, Option}
 use Rattle.std.specs.List.{flat_map, AllByRecursion}
+use Rattle.numbers.specs.declared.refusal.Refusal.TheVariants.{Surplus}
 use Rattle.numbers.specs.Numbers.{written_all}
 use Rattle.scripts.specs.declared.entry.Entry.{Entry}
 use Rattle.scripts.specs.Scripts.{Contents, Proper}
@@ -30,3 +31,8 @@ module _ {K : Type 0} (size : ℕ) (image : K → List ℕ) (named : List ℕ �
   -- and every script that there may be reads back as itself
   abbrev pub ScriptBack : Type 0
   ScriptBack = (places : ℕ) (s : Contents) (ps : List K) → Stands places s ps → read_script size named places (written_all (script_numbers image s ps)) ≡ Ok (s, ps)
+
+  -- with more bytes behind it, it is refused for these
+  abbrev pub ScriptSurplus : Type 0
+  ScriptSurplus = (places b : ℕ) (behind : List ℕ) (s : Contents) (ps : List K) → Stands places s ps
+      → read_script size named places (written_all (script_numbers image s ps) ++ (b ∷ behind)) ≡ Err Surplus
