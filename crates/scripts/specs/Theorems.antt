@@ -1,7 +1,8 @@
 -- What the bytes of a script are for. Assumes nothing.
 use Rattle.std.specs.Prelude.{◌≡◌, ℕ, ◌^◌, ◌<◌, ◌≤◌, List, [], ◌∷◌, ◌++◌, length, Ok, Err, Option}
 use Rattle.std.specs.List.{flat_map, AllByRecursion}
-use Rattle.numbers.specs.declared.refusal.Refusal.TheVariants.{Surplus}
+use Rattle.numbers.specs.declared.refusal.Refusal.{Refusal}
+use Rattle.numbers.specs.declared.refusal.Refusal.TheVariants.{Short, Surplus}
 use Rattle.numbers.specs.Numbers.{written_all}
 use Rattle.scripts.specs.declared.entry.Entry.{Entry}
 use Rattle.scripts.specs.Scripts.{Contents, Proper}
@@ -36,3 +37,8 @@ module _ {K : Type 0} (size : ℕ) (image : K → List ℕ) (named : List ℕ �
   abbrev pub ScriptSurplus : Type 0
   ScriptSurplus = (places b : ℕ) (behind : List ℕ) (s : Contents) (ps : List K) → Stands places s ps
       → read_script size named places (written_all (script_numbers image s ps) ++ (b ∷ behind)) ≡ Err Surplus
+
+  -- bytes are judged as they are read: a fault stays the one told with more bytes behind it, unless it was that they end too soon
+  abbrev pub ScriptFault : Type 0
+  ScriptFault = (places : ℕ) (bytes behind : List ℕ) (e : Refusal) → read_script size named places bytes ≡ Err e → (e ≡ Short → ⊥)
+      → read_script size named places (bytes ++ behind) ≡ Err e
