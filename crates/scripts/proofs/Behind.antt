@@ -1,5 +1,5 @@
 -- Bytes are judged as they are read: what stands behind a fault does not count, unless the bytes ended too soon. Assumes nothing.
-use Rattle.std.proofs.Common.{◌≡◌, ℕ, zero, suc, ◌+◌, ◌<◌, ◌≤◌, inl, inr, true, false, nat_lt, List, [], ◌∷◌, ◌++◌, length, get_or, drop, Ok, Err, Option, Result, refl, ap, sym, ◌∙◌, arith, length-append, Bool, ◌==◌, slice_index}
+use Rattle.std.proofs.Common.{◌≡◌, ℕ, zero, suc, ◌+◌, ◌<◌, ◌≤◌, ◌==◌, Bool, true, false, nat_lt, List, [], ◌∷◌, ◌++◌, length, get_or, slice_index, drop, Ok, Err, Option, Result, sym, refl, ap, ◌∙◌, inl, inr, arith, length-append}
 use lib.ListN.{get_or-append}
 use lib.Seq.{take-append-le, drop-append-le}
 use Rattle.std.specs.List.{prefix_len}
@@ -22,21 +22,28 @@ use Rattle.scripts.specs.declared.entry.Entry.{Entry}
 use Rattle.scripts.specs.Theorems.{ScriptFault}
 use Rattle.scripts.specs.Reading.{number_at, read_head, several, proposal_at, entry_at, read_entries, read_script}
 
--- with more bytes behind it the other is read, and the same unless the bytes ended too soon
+-- one is what is read of some bytes, and the other is the same with more bytes behind them, unless they ended too soon
 record Keeps {X D : Type 0} (up : D → Refusal) (one other : Result X D) : Type 0 where
   same : ((d : D) → one ≡ Err d → up d ≡ Short → ⊥) → other ≡ one
+
+keeps_ok : {X D : Type 0} (up : D → Refusal) (x : X) (other : Result X D) → Keeps up (Ok x) other → other ≡ Ok x
+keeps_ok up x other k = k.same (λ d is. absurd cc)
+
+keeps_err : {X D : Type 0} (up : D → Refusal) (d : D) (other : Result X D) → Keeps up (Err d) other → (up d ≡ Short → ⊥) → other ≡ Err d
+keeps_err up d other k long = k.same (λ c is short. let e : c ≡ d = cc in long (rw e at short))
 
 keeps_refl : {X D : Type 0} (up : D → Refusal) (one : Result X D) → Keeps up one one
 keeps_refl up one = record { same = λ _. refl }
 
 keeps_map : {X D E : Type 0} (up : E → Refusal) (into : D → E) (one other : Result X D) → Keeps (λ d. up (into d)) one other → Keeps up (map_fault into one) (map_fault into other)
-keeps_map up into (Ok x) other k = record { same = λ _. ap (map_fault into) (k.same (λ d is. absurd cc)) }
-keeps_map up into (Err d) other k = record { same = λ long. ap (map_fault into) (k.same (λ c is short. let e : c ≡ d = cc in long (into d) refl (rw e at short))) }
+keeps_map up into (Ok x) other k = record { same = λ _. ap (map_fault into) (keeps_ok _ x other k) }
+keeps_map up into (Err d) other k = record { same = λ long. ap (map_fault into) (keeps_err _ d other k (long (into d) refl)) }
 
+-- where two parts stay so, the one after the other does
 keeps_then : {X Y D E : Type 0} (up : E → Refusal) (into : D → E) (one other : Result X D) (go on : X → Result Y E) → Keeps (λ d. up (into d)) one other → ((x : X) → Keeps up (go x) (on x))
     → Keeps up (and_then into one go) (and_then into other on)
-keeps_then up into (Ok x) other go on k each = record { same = λ long. ap (λ r. and_then into r on) (k.same (λ d is. absurd cc)) ∙ (each x).same long }
-keeps_then up into (Err d) other go on k each = record { same = λ long. ap (λ r. and_then into r on) (k.same (λ c is short. let e : c ≡ d = cc in long (into d) refl (rw e at short))) }
+keeps_then up into (Ok x) other go on k each = record { same = λ long. ap (λ r. and_then into r on) (keeps_ok _ x other k) ∙ (each x).same long }
+keeps_then up into (Err d) other go on k each = record { same = λ long. ap (λ r. and_then into r on) (keeps_err _ d other k (long (into d) refl)) }
 
 -- where each stays so, all do
 several_keep : {X : Type 0} (one other : List X → ℕ → Result (X × ℕ) Refusal) → ((before : List X) (place : ℕ) → Keeps (λ (e : Refusal). e) (one before place) (other before place))
@@ -45,19 +52,14 @@ unfolding several
 several_keep one other each zero place = keeps_refl _ _
 several_keep one other each (suc k) place = keeps_then _ _ _ _ _ _ (several_keep one other each k place) (λ before. keeps_then _ _ _ _ _ _ (each before.0 before.1) (λ next. keeps_refl _ _))
 
--- with more bytes behind it a fault is the same, unless the bytes ended too soon
+-- the faults of the other are the same, unless the bytes ended too soon
 record Stops {X : Type 0} (one other : Result X Refusal) : Type 0 where
   same : (e : Refusal) → one ≡ Err e → (e ≡ Short → ⊥) → other ≡ Err e
 
 stops_then : {X Y : Type 0} (one other : Result X Refusal) (go on : X → Result Y Refusal) → Keeps (λ (e : Refusal). e) one other → ((x : X) → Stops (go x) (on x))
     → Stops (and_then (λ (e : Refusal). e) one go) (and_then (λ (e : Refusal). e) other on)
-stops_then (Ok x) other go on k each = record { same = λ e is long. ap (λ r. and_then (λ (f : Refusal). f) r on) (k.same (λ d no. absurd cc)) ∙ (each x).same e is long }
-stops_then (Err d) other go on k each = record {
-  same = λ e is long.
-      let same : d ≡ e = cc in
-      let stays : other ≡ Err d = k.same (λ c no short. let c_is : c ≡ d = cc in long (rw (c_is, same) at short)) in
-      rw stays is;
-}
+stops_then (Ok x) other go on k each = record { same = λ e is long. ap (λ r. and_then (λ (f : Refusal). f) r on) (keeps_ok _ x other k) ∙ (each x).same e is long }
+stops_then (Err d) other go on k each = record { same = λ e is long. let same : d ≡ e = cc in ap (λ r. and_then (λ (f : Refusal). f) r on) (keeps_err _ d other k (rw (← same) at long)) ∙ is }
 
 -- ---- a number
 

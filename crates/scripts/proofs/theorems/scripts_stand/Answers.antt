@@ -8,4 +8,12 @@ pub returns : goal.returns
 returns g c =
     let k = g.K.Kind in
     let m = g.met.K.Kind in
-    record { zero = refl; most = refl; only = script_only k.SIZE k.image k.named m.only; back = script_back k.SIZE k.image k.named m.long m.small m.back; surplus = script_surplus k.SIZE k.image k.named m.long m.small m.back; fault = script_fault k.SIZE k.image k.named; examples = examples }
+    record {
+      zero = refl;
+      most = refl;
+      only = script_only k.SIZE k.image k.named m.only;
+      back = script_back k.SIZE k.image k.named m.long m.small m.back;
+      surplus = script_surplus k.SIZE k.image k.named m.long m.small m.back;
+      fault = script_fault k.SIZE k.image k.named;
+      examples = examples;
+    }
