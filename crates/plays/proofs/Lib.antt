@@ -6,3 +6,4 @@ mod Calls
 mod Rounds
 mod Made
 mod Reported
+mod Answered

@@ -1,3 +1,4 @@
 pub mod Plays
 pub mod Theorems
 pub mod Answers
+pub mod Examples

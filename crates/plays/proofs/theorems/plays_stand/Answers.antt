@@ -1,6 +1,7 @@
 use Rattle.std.proofs.Common.{arith}
 use Rattle.plays.proofs.Entries.{entries_count}
 use Rattle.plays.proofs.Playing.{script_plays}
+use Rattle.plays.proofs.Answered.{examples}
 use Rattle.plays.proofs.theorems.plays_stand.Goals as goal
 
 pub returns-clause-zero : goal.returns-clause-zero
@@ -14,3 +15,6 @@ returns-clause-plays g c =
 
 pub returns-clause-entries : goal.returns-clause-entries
 returns-clause-entries g c = entries_count
+
+pub returns-clause-examples : goal.returns-clause-examples
+returns-clause-examples g c = examples

@@ -1,0 +1,14 @@
+-- Worked answers, with bytes in hexadecimal. Assumes nothing.
+use Rattle.std.specs.Prelude.{◌≡◌, ℕ, List, [], ◌∷◌, codes}
+use Rattle.kinds.specs.declared.proposals.Piece.{Piece}
+use Rattle.kinds.specs.Pieces.{piece_leads, piece_image, piece_named}
+use Rattle.plays.specs.Answers.{answer_text}
+
+abbrev answered : List ℕ → Piece → List ℕ
+answered = answer_text piece_leads piece_image 1 piece_named
+
+-- four boxes with the pieces 30, 20, 10 and 40, of which two may fall: box 2 does in round 1, unheard by all; and a script that begins with 80
+abbrev pub Examples : Type 0
+Examples = (past_end : Piece)
+    → (answered (0x04 ∷ 0x02 ∷ 0x1e ∷ 0x14 ∷ 0x0a ∷ 0x28 ∷ 0x01 ∷ 0x01 ∷ 0x02 ∷ 0x0b ∷ []) past_end ≡ codes "0 rings 3 20\n1 rings 3 20\n2 down 1\n3 rings 3 20\n")
+    × (answered (0x80 ∷ []) past_end ≡ codes "refused 3\n")
