@@ -7,8 +7,8 @@ ghost use Rattle.scripts.specs.Theorems.{ScriptOnly, ScriptBack, ScriptSurplus, 
 use super::script::MOST_FALLS;
 use kinds::Kind;
 
-// Bytes that are read as a script are those of its numbers; the numbers of every script that keeps the limits read back as it, and are refused with
-// more bytes behind them. A fault stays the one told, whatever bytes follow, unless it was that they end too soon. The rest are worked examples.
+// Bytes that are read as a script are those of its numbers; the numbers of every script that keeps the limits read back as it, and with more bytes
+// behind them are refused. A fault stays the one told, whatever bytes follow, unless it was that they end too soon. The rest are worked examples.
 pub fn scripts_stand<K: Kind>() -> u8
     ensures zero { result ≡ 0 }
     ensures most { MOST_FALLS + 1 ≡ most_company }
