@@ -4,7 +4,6 @@
 
 use plays::write_answer;
 use reports::LONGEST_REPORT;
-use std::rt::Files;
 use std::{env, fs, io};
 
 // The names of the examples in a folder, in order.
