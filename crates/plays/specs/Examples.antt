@@ -7,7 +7,7 @@ use Rattle.plays.specs.Answers.{answer_text}
 abbrev answered : List ℕ → Piece → List ℕ
 answered = answer_text piece_leads piece_image 1 piece_named
 
--- four boxes with the pieces 30, 20, 10 and 40, of which two may fall: box 2 does in round 1, unheard by all; and a script that begins with 80
+-- four boxes with the pieces 30, 20, 10 and 40, of which two may fall: box 2 does in round 1, unheard by all; and the byte 80 alone, which is no script
 abbrev pub Examples : Type 0
 Examples = (past_end : Piece)
     → (answered (0x04 ∷ 0x02 ∷ 0x1e ∷ 0x14 ∷ 0x0a ∷ 0x28 ∷ 0x01 ∷ 0x01 ∷ 0x02 ∷ 0x0b ∷ []) past_end ≡ codes "0 rings 3 20\n1 rings 3 20\n2 down 1\n3 rings 3 20\n")

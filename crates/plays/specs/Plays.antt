@@ -50,8 +50,8 @@ history_of s proposals past_end = record {
   closed = ring_round s;
 }
 
--- what playing it over a wire with this meaning leaves, for a row of so many places: a ringing is made, unless that is refused, and at the end it
--- is with its row that of the history
+-- what playing it over a wire with this meaning leaves, for a row of so many places: a ringing is made, unless that is refused, and at the end the
+-- state, of ringing and row, is that of the history
 abbrev pub script_played : {K : Type 0} → (K → K → Bool) → (K → List ℕ) → Contents → Meaning → ℕ → List K → K → Result (State K) Refusal
 script_played leads image s m places proposals past_end =
     result_map_both (λ _. state_by leads (history_of s proposals past_end) image m.posted) (λ e. e) (making s.n s.t m places proposals)

@@ -58,7 +58,7 @@ ScriptPlays {K} leads image = (s : Contents) → Proper s → (proposals : List 
     × ((places : ℕ) (m : Meaning) (first : State K) → WellFormed m → making s.n s.t m places proposals ≡ Ok first
     → GoesTo leads image m.posted s h first)
 
--- bytes that are a script are played so on a new wire, where making a ringing for it is not refused
+-- bytes that are a script are played so on a new wire; making a ringing for it is not refused there
 abbrev pub BytesPlay : {K : Type 0} → (K → K → Bool) → (K → List ℕ) → ℕ → (List ℕ → Option K) → List ℕ → Type 0
 BytesPlay {K} leads image size named bytes = (s : Contents) (proposals : List K) (past_end : K) → read_script size named most_company bytes ≡ Ok (s, proposals)
     → let h = history_of s proposals past_end in

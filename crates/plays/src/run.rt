@@ -68,7 +68,7 @@ fn play_rounds<W: Wire, K: Kind>(script: &Script, ringing: &mut Ringing<W>, row:
 
 // Plays a script with these proposals over a wire: a ringing is made, each round's falls are told before it, and the rounds are played until the boxes
 // ring. It refuses what making refuses, gives the wire back then and leaves the row as it was. Once a ringing is made, each call of the script
-// is accepted, and the boxes ring in round t + 1 - D with what the rule gives them.
+// is accepted, and the boxes ring in round t + 1 - D (`ring_round`) with what the rule gives them.
 pub fn play<W: Wire, K: Kind>(
     script: &Script,
     proposals: &[K],

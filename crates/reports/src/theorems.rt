@@ -5,7 +5,8 @@ ghost use Rattle.reports.specs.Theorems.{ReportLength, RefusalLength, Examples, 
 use super::report::{LONGEST_REFUSAL, LONGEST_REPORT};
 use kinds::Kind;
 
-// How long a report and the line of a refusal can be, and that the constants are the room for them; and worked examples of both.
+// How long the line of a refusal can be, and a report in which all rounds are below 100, and that the constants are the room for them; and worked
+// examples of both.
 pub fn reports_stand<K: Kind>() -> u8
     ensures zero { result ≡ 0 }
     ensures room { LONGEST_REPORT ≡ longest_report }

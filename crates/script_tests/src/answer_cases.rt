@@ -1,4 +1,4 @@
-// What is answered to scripts of pieces, written into bytes that were 0xaa, of which no other is touched.
+// What is answered to scripts of pieces, written into bytes that were 0xaa, of which none behind the text is touched.
 use plays::write_answer;
 use reports::LONGEST_REPORT;
 use std::process::Abort;

@@ -14,7 +14,8 @@ pub record Contents : Type 0 where
 abbrev pub contents : Script → Contents
 contents s = record { n = s.n; t = s.t; entries = s.entries.items }
 
--- a script keeps the limits: n and t are those of a company, and it has at most t entries, which it may have
+-- a script keeps the limits: n and t are those of a company, and it has at most t entries, each within the limits and no box in two of
+-- them
 pub record Proper (s : Contents) : Type 0 where
   pub size : company s.n s.t ≡ true
   pub few : length s.entries ≤ s.t

@@ -1,4 +1,4 @@
--- What the bytes of a script are for. Assumes nothing.
+-- Laws of scripts as bytes. Assumes nothing.
 use Rattle.std.specs.Prelude.{◌≡◌, ℕ, ◌^◌, ◌<◌, ◌≤◌, List, [], ◌∷◌, ◌++◌, length, Ok, Err, Option}
 use Rattle.std.specs.List.{flat_map, AllByRecursion}
 use Rattle.numbers.specs.declared.refusal.Refusal.{Refusal}
@@ -24,12 +24,12 @@ abbrev pub script_numbers : {K : Type 0} → (K → List ℕ) → Contents → L
 script_numbers image s ps = s.n ∷ s.t ∷ (flat_map image ps ++ (length s.entries ∷ flat_map entry_numbers s.entries))
 
 module _ {K : Type 0} (size : ℕ) (image : K → List ℕ) (named : List ℕ → Option K) where
-  -- what is read is a script that there may be, and the bytes are those of its numbers
+  -- what is read is a script within the limits, and the bytes are those of its numbers
   abbrev pub ScriptOnly : Type 0
   ScriptOnly = (places : ℕ) (bytes : List ℕ) (s : Contents) (ps : List K) → AllByRecursion (λ b. b < 256) bytes → read_script size named places bytes ≡ Ok (s, ps)
       → Stands places s ps × (bytes ≡ written_all (script_numbers image s ps))
 
-  -- and every script that there may be reads back as itself
+  -- and every script within the limits reads back as itself
   abbrev pub ScriptBack : Type 0
   ScriptBack = (places : ℕ) (s : Contents) (ps : List K) → Stands places s ps → read_script size named places (written_all (script_numbers image s ps)) ≡ Ok (s, ps)
 
