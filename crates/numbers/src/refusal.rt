@@ -47,7 +47,7 @@ pub enum Refusal {
     Narrow = 19,
     // The box has posted in this round.
     Posted = 20,
-    // An entry or a count that no script may have.
+    // A script has more entries than t, or one of a round or of a box that it may not have.
     Entry = 21,
 }
 
