@@ -20,9 +20,12 @@ use Rattle.boxes.specs.Boxes.{first_held, frame_of}
 use Rattle.boxes.specs.Rule.{Heard, ruled_outcome}
 use Rattle.wire.specs.Meaning as wire
 use Rattle.wire.specs.Meaning.{Meaning, is_lost, falling}
+use Rattle.rows.specs.declared.place.Blow.{Blow}
+use Rattle.rows.specs.declared.place.Blow.TheVariants as blow
+use Rattle.rows.specs.declared.place.Rung.{Rung}
 use Rattle.rows.specs.declared.place.Standing.{Standing}
 use Rattle.rows.specs.Numbered.{by_number, any_numbered}
-use Rattle.rows.specs.Places.{Stand, at_rest, down, rung, stand_of, standing_of}
+use Rattle.rows.specs.Places.{Stand, at_rest, down, rung, stand_of, standing_of, rung_of, come_to, is_undrawn, is_out}
 
 -- what a ringing is at some moment, with the row that is handed to its calls: the wire's meaning, how many boxes may fall, how many rounds
 -- are closed, and what stands at each place
@@ -146,6 +149,34 @@ module _ {K : Type 0} where
     unfoldable pub playing : (K → List ℕ) → ℕ → State K → Result (State K) Refusal
     playing image room s =
         unless ((bad_row s, refusal.Row) ∷ (nat_lt room longest_frame, refusal.Narrow) ∷ (over s, refusal.Over) ∷ []) (played image s)
+
+  -- ---- strike orders. By its plain numbers one is of a box and a round
+
+  -- the blow of box p has come so far; and those of all boxes
+  abbrev pub with_blow : Blow → ℕ → State K → State K
+  with_blow b p s = record s { row = by_number (λ q x. cond (q == p) (come_to b x) x) s.row }
+
+  abbrev pub with_blows : (ℕ → Blow) → State K → State K
+  with_blows blows s = record s { row = by_number (λ q x. come_to (blows q) x) s.row }
+
+  -- drawing the order of box p: it is of the round in which p rings, and then out
+  unfoldable pub drawing : BoxNumber → State K → Result (RoundNumber × State K) Refusal
+  drawing p s =
+      and_then (λ e. e) (row_checked s) (λ _.
+      and_then (λ e. e) (ok_or (slice_get s.row p.0) refusal.Stranger) (λ place.
+      and_then (λ e. e) (ok_or (rung_of place) refusal.Silent) (λ x.
+      unless ((not (is_undrawn x.blow), refusal.Order) ∷ []) (x.round, with_blow blow.Out p.0 s))))
+
+  -- what stands at a place rings in round r, and its order is out
+  abbrev pub out_in : RoundNumber → Option (Stand K) → Bool
+  out_in r None = false
+  out_in r (Some (at_rest b)) = false
+  out_in r (Some (down f)) = false
+  out_in r (Some (rung x)) = is_out x.blow && x.round.0 == r.0
+
+  -- the order of box p and round r is given back, as struck or as missed
+  unfoldable pub reporting : Blow → BoxNumber → RoundNumber → State K → Result (State K) Refusal
+  reporting b p r s = unless ((bad_row s, refusal.Row) ∷ (not (out_in r (slice_get s.row p.0)), refusal.Order) ∷ []) (with_blow b p.0 s)
 
   -- ---- asking
 

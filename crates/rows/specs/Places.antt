@@ -1,5 +1,5 @@
 -- What stands at a place of a row, by what a box there holds, and what is told of it. Assumes nothing.
-use Rattle.std.specs.Prelude.{ℕ, List, codes, Some, None, Option}
+use Rattle.std.specs.Prelude.{ℕ, Bool, true, false, List, codes, Some, None, Option}
 use Rattle.sets.specs.declared.labels.RoundNumber.{RoundNumber}
 use Rattle.boxes.specs.declared.states.Held.{Held}
 use Rattle.boxes.specs.Rounds.{Outcome, rests, rings}
@@ -32,6 +32,31 @@ abbrev pub standing_of : {K : Type 0} → Stand K → Standing K
 standing_of (at_rest b) = standing.Up
 standing_of (down r) = standing.Down r
 standing_of (rung x) = standing.Rung x
+
+-- how the box there rings, if it does
+abbrev pub rung_of : {K : Type 0} → Stand K → Option (Rung K)
+rung_of (at_rest b) = None
+rung_of (down r) = None
+rung_of (rung x) = Some x
+
+-- the same with its blow come so far. Of a box that does not ring there is no blow
+abbrev pub come_to : {K : Type 0} → Blow → Stand K → Stand K
+come_to b (at_rest h) = at_rest h
+come_to b (down r) = down r
+come_to b (rung x) = rung (record x { blow = b })
+
+-- no strike order was drawn yet; one was, and is out
+abbrev pub is_undrawn : Blow → Bool
+is_undrawn blow.Rings = true
+is_undrawn blow.Out = false
+is_undrawn blow.Struck = false
+is_undrawn blow.Missed = false
+
+abbrev pub is_out : Blow → Bool
+is_out blow.Rings = false
+is_out blow.Out = true
+is_out blow.Struck = false
+is_out blow.Missed = false
 
 -- ---- word, round and proposal of what is told
 

@@ -15,10 +15,11 @@ use Rattle.boxes.specs.Boxes.{frame_of}
 use Rattle.boxes.specs.Rounds.{noted, hearing}
 use Rattle.boxes.specs.Rule.{ruled, ruled_outcome}
 use Rattle.wire.specs.Meaning.{Meaning, WellFormed, carrying, posting, fetching}
+use Rattle.rows.specs.declared.place.Blow.{Blow}
 use Rattle.rows.specs.declared.place.Place.{Place}
 use Rattle.rows.specs.declared.place.Rung.{Rung}
 use Rattle.rows.specs.Places.{at_rest, down, rung, shown}
-use Rattle.rows.specs.Calls.{State, gone_count, first_row, making, bad_row, over, telling, playing, asking, heard_by, carried}
+use Rattle.rows.specs.Calls.{State, gone_count, first_row, making, bad_row, over, telling, playing, drawing, reporting, asking, heard_by, carried}
 
 -- a row is determined by what stands at its places
 abbrev pub RowDetermined : Type 0 → Type 0
@@ -34,6 +35,7 @@ MakeAccepted K = (n t : ℕ) (m : Meaning) (places : ℕ) (proposals : List K) �
 abbrev pub RowFirst : {K : Type 0} → (K → K → Bool) → (K → List ℕ) → Type 0
 RowFirst {K} leads image = (s : State K) → bad_row s ≡ true
     → ((q : BoxNumber) (lost : BoxSet) → telling q lost s ≡ Err Row) × ((room : ℕ) → playing leads image room s ≡ Err Row) × ((p : BoxNumber) → asking p s ≡ Err Row)
+    × ((p : BoxNumber) → drawing p s ≡ Err Row) × ((b : Blow) (p : BoxNumber) (r : RoundNumber) → reporting b p r s ≡ Err Row)
 
 -- one that is not refused has a place for each box of the company: a box that is up is at rest there with its own number, n, t and closed rounds
 -- and misses none that is up, or rings in the last closed round; one that is not up is down. And at most t are down or falling

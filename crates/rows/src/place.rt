@@ -2,7 +2,7 @@
 ghost use Rattle.std.specs.Prelude.{◌≡◌};
 ghost use Rattle.boxes.specs.Rounds.{outcome};
 ghost use Rattle.std.specs.List.{list_any};
-ghost use Rattle.rows.specs.Places.{shown, stand_of, standing_of, standing_word, round_of, proposal_of};
+ghost use Rattle.rows.specs.Places.{shown, stand_of, standing_of, standing_word, round_of, proposal_of, rung_of};
 ghost use Rattle.rows.specs.Calls.{has_rung};
 
 use boxes::{Closed, Resting};
@@ -53,6 +53,16 @@ impl<K: Copy> Place<K> {
             Place::Resting(_) => Standing::Up,
             Place::Down(round) => Standing::Down(round),
             Place::Rung(rung) => Standing::Rung(rung),
+        }
+    }
+
+    // How the box rings, if it does.
+    pub fn rung(&self) -> Option<Rung<K>>
+        ensures { result ≡ rung_of (shown self.now) }
+    {
+        match self {
+            Place::Resting(_) | Place::Down(_) => None,
+            Place::Rung(rung) => Some(*rung),
         }
     }
 
