@@ -3,3 +3,4 @@ pub mod Checked
 pub mod Rounds
 mod Places
 mod Means
+pub mod Blows

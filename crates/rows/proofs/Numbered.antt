@@ -1,5 +1,5 @@
 -- Lists whose elements are taken with their numbers. Assumes nothing.
-use Rattle.std.proofs.Common.{◌≡◌, ℕ, zero, suc, ◌+◌, ◌<◌, Bool, true, false, cond, eqb, ltb, List, [], ◌∷◌, length, map, set, Some, None, option_map, sym, refl, ap, ◌∙◌, arith}
+use Rattle.std.proofs.Common.{◌≡◌, ℕ, zero, suc, ◌+◌, ◌<◌, Bool, true, false, cond, ◌||◌, eqb, ltb, List, [], ◌∷◌, length, map, set, Some, None, option_map, sym, refl, ap, ◌∙◌, arith}
 use Rattle.std.specs.List.{list_any, enumerate_from, slice_get, range_with_len}
 use Rattle.std.proofs.lemmas.Bool.{both_ways}
 use Rattle.std.proofs.lemmas.Bool.Decides.{nat_tests}
@@ -55,6 +55,25 @@ module _ {X Y : Type 0} (f : ℕ → X → Y) where
   pub length-by_number : (xs : List X) → length (by_number f xs) ≡ length xs
   unfolding by_number
   length-by_number xs = length-map (enumerate_from 0 xs) (λ e. f e.0 e.1) ∙ length-enumerate_from 0 xs
+
+module _ {X Y : Type 0} (f : ℕ → X → Y) (P : ℕ → X → Bool) (Q : ℕ → Y → Bool) (same : (q : ℕ) (x : X) → Q q (f q x) ≡ P q x) where
+  any_from_k : (k : ℕ) (xs : List X) → list_any (λ e. Q e.0 e.1) (enumerate_from k (map (λ e. f e.0 e.1) (enumerate_from k xs))) ≡ list_any (λ e. P e.0 e.1) (enumerate_from k xs)
+  any_from_k k [] = refl
+  any_from_k k (x ∷ xs) = (λ j. same k x j || any_from_k (k + 1) xs j)
+
+  -- a test of what f makes of each
+  pub any-by_number : (xs : List X) → any_numbered Q (by_number f xs) ≡ any_numbered P xs
+  unfolding any_numbered by_number
+  any-by_number xs = any_from_k 0 xs
+
+module _ {X Y : Type 0} (f : ℕ → X → Y) (P : X → Bool) (Q : Y → Bool) (same : (q : ℕ) (x : X) → Q (f q x) ≡ P x) where
+  each_from : (k : ℕ) (xs : List X) → list_any Q (map (λ e. f e.0 e.1) (enumerate_from k xs)) ≡ list_any P xs
+  each_from k [] = refl
+  each_from k (x ∷ xs) = (λ j. same k x j || each_from (k + 1) xs j)
+
+  pub each-by_number : (xs : List X) → list_any Q (by_number f xs) ≡ list_any P xs
+  unfolding by_number
+  each-by_number xs = each_from 0 xs
 
 module _ {X : Type 0} (P : ℕ → X → Bool) where
   none_from : (k : ℕ) (xs : List X) → list_any (λ e. P e.0 e.1) (enumerate_from k xs) ≡ false → (p : ℕ) (x : X) → slice_get xs p ≡ Some x → P (k + p) x ≡ false
