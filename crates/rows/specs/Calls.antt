@@ -190,3 +190,7 @@ answer r = result_map_both (λ _. tt) (λ e. e) r
 
 abbrev pub or_kept : {K : Type 0} → State K → Result (State K) Refusal → State K
 or_kept s r = result_unwrap_or r s
+
+-- the state after an order was drawn
+abbrev pub drawn : {X K : Type 0} → Result (X × State K) Refusal → Result (State K) Refusal
+drawn r = result_map_both (λ x. x.1) (λ e. e) r
