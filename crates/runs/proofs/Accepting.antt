@@ -1,11 +1,9 @@
--- Which calls are accepted, and what is told, by the history. Assumes nothing.
-use Rattle.std.proofs.Common.{◌≡◌, ℕ, suc, ◌<◌, Bool, true, false, cond, not, ◌&&◌, leb, ltb, ◌⊎◌, List, [], ◌∷◌, is_some, Some, None, Option, is_ok, sym, refl, ap, ◌∙◌, inl, inr, arith}
+-- Which rounds and falls are accepted, and who rings, by the history. Assumes nothing.
+use Rattle.std.proofs.Common.{◌≡◌, ℕ, suc, ◌<◌, Bool, true, false, cond, not, ◌&&◌, leb, ltb, ◌⊎◌, List, is_some, Some, None, Option, is_ok, sym, refl, ap, ◌∙◌, inl, inr, arith}
 use Rattle.std.specs.List.{slice_get}
 use Rattle.std.proofs.lemmas.Bool.{cases_Bool, both_ways}
 use Rattle.std.proofs.lemmas.Option.{slice_get_within}
 use Rattle.std.proofs.lemmas.Bool.Decides.{nat_tests}
-use Rattle.numbers.specs.declared.refusal.Refusal.TheVariants.{Stranger}
-use Rattle.numbers.specs.Refusals.{unless}
 use Rattle.sets.specs.declared.labels.BoxNumber.{BoxNumber}
 use Rattle.sets.specs.declared.set.BoxSet.{BoxSet}
 use Rattle.sets.proofs.Counts.{any_none, any_has}
@@ -16,8 +14,8 @@ use Rattle.rule.specs.Histories.{History, Allowed}
 use Rattle.rule.specs.Values as rule
 use Rattle.rows.specs.declared.place.Blow.TheVariants as blow
 use Rattle.rows.specs.declared.place.Rung.{Rung}
-use Rattle.rows.specs.Places.{Stand, standing_of, rung}
-use Rattle.rows.specs.Calls.{State, is_gone, bad_row, has_rung, over, telling, playing, asking}
+use Rattle.rows.specs.Places.{Stand, rung}
+use Rattle.rows.specs.Calls.{State, is_gone, bad_row, has_rung, over, telling, playing}
 use Rattle.rows.proofs.Numbered.{list_none, none_list}
 use Rattle.runs.specs.Runs.{stand_by, row_by, wire_by, state_by}
 use Rattle.runs.specs.Theorems.{somebody_rings, may_fall}
@@ -31,10 +29,10 @@ module _ {K : Type 0} (leads : K → K → Bool) (image : K → List ℕ) (unope
   abbrev s : State K
   s = state_by leads h image unopened
 
-  good : bad_row s ≡ false
+  pub good : bad_row s ≡ false
   good = row_good leads h allowed.size image unopened due allowed.few
 
-  rung_is : (p : ℕ) → has_rung (stand_by leads h p) ≡ (closes h.falls p h.closed && rule.rings h p h.closed)
+  pub rung_is : (p : ℕ) → has_rung (stand_by leads h p) ≡ (closes h.falls p h.closed && rule.rings h p h.closed)
   rung_is p = by (cases_Bool (closes h.falls p h.closed)) (cases_Bool (rule.rings h p h.closed))
     where
       by : (closes h.falls p h.closed ≡ true) ⊎ (closes h.falls p h.closed ≡ false) → (rule.rings h p h.closed ≡ true) ⊎ (rule.rings h p h.closed ≡ false)
@@ -102,11 +100,4 @@ module _ {K : Type 0} (leads : K → K → Bool) (image : K → List ℕ) (unope
       let c = gone_counted leads h allowed.size image unopened due in
       let d = due q.0 in
       let fell : q.0 < h.n → is_gone s.wire q.0 ≡ is_some (h.falls q.0) = λ l. gone_is leads h allowed.size image unopened q.0 l ∙ sym d in
-      grind (arith, nat_tests)
-
-  pub told_is : (p : BoxNumber) → asking p s ≡ unless ((leb h.n p.0, Stranger) ∷ []) (standing_of (stand_by leads h p.0))
-  unfolding asking
-  told_is p =
-      let g = good in
-      let at = at_place leads h allowed.size p.0 in
       grind (arith, nat_tests)

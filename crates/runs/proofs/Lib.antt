@@ -6,3 +6,7 @@ mod Played
 mod Made
 mod Accepting
 mod Following
+mod Blown
+mod Told
+mod Promised
+mod Once

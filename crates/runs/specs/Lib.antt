@@ -1,2 +1,3 @@
 pub mod Runs
+pub mod Promise
 pub mod Theorems

@@ -1,5 +1,8 @@
 use Rattle.std.proofs.Common.{arith}
-use Rattle.runs.proofs.Following.{calls_follow}
+use Rattle.runs.proofs.Following.{calls_kept}
+use Rattle.runs.proofs.Told.{follows}
+use Rattle.runs.proofs.Promised.{rings_once}
+use Rattle.runs.proofs.Once.{orders_once}
 use Rattle.runs.proofs.theorems.calls_follow.Goals as goal
 
 pub returns : goal.returns
@@ -7,7 +10,12 @@ returns g c =
     let k = g.K.Kind in
     let rule = c.rule_stands.ensures in
     let boxes = c.box_follows.ensures in
+    let kept = calls_kept k.leads k.image rule.coming rule.past boxes.begins boxes.follows in
     record {
       zero = let z = rule.zero in let y = boxes.zero in omega arith;
-      follow = calls_follow k.leads k.image rule.coming rule.past boxes.begins boxes.follows;
+      follow = λ n t places m proposals s formed made past_end calls. follows k.leads k.image m.posted _ _ (kept n t places m proposals s formed made past_end calls);
+      ring_once = λ n t places m proposals s formed made past_end calls. (
+        rings_once k.leads k.image m.posted _ _ rule.agree (kept n t places m proposals s formed made past_end calls),
+        orders_once k.leads k.image n t places m proposals s formed made past_end calls,
+      );
     }

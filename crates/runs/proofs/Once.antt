@@ -1,0 +1,218 @@
+-- Each strike order is handed out once and given back once, in any list of calls on any row. Assumes nothing.
+use Rattle.std.proofs.Common.{◌≡◌, ℕ, ◌+◌, ◌≤◌, Bool, true, false, cond, not, ◌&&◌, eqb, ◌⊎◌, List, [], ◌∷◌, Some, None, Ok, Err, Option, option_map, Result, is_some, sym, refl, ap, ◌∙◌, inl, inr, arith}
+use Rattle.std.specs.List.{slice_get}
+use Rattle.std.specs.Result.{result_map_both}
+use Rattle.std.proofs.lemmas.Bool.{cases_Bool, eqb-true}
+use Rattle.std.proofs.lemmas.Bool.Decides.{nat_tests}
+use Rattle.numbers.specs.declared.refusal.Refusal.{Refusal}
+use Rattle.sets.specs.declared.labels.BoxNumber.{BoxNumber}
+use Rattle.sets.specs.declared.labels.RoundNumber.{RoundNumber}
+use Rattle.sets.specs.declared.set.BoxSet.{BoxSet}
+use Rattle.boxes.specs.Boxes.{first_held}
+use Rattle.boxes.specs.Rounds.{Outcome, rests, rings}
+use Rattle.boxes.specs.Rule.{ruled_outcome}
+use Rattle.wire.specs.Meaning.{Meaning}
+use Rattle.rows.specs.declared.place.Blow.{Blow}
+use Rattle.rows.specs.declared.place.Blow.TheVariants as blow
+use Rattle.rows.specs.Places.{Stand, at_rest, down, rung, stand_of, come_to, is_undrawn, is_out}
+use Rattle.rows.specs.Calls.{State, making, telling, playing, stand_after, coming, heard_by, with_blow, drawing, drawn, out_in, reporting, or_kept}
+use Rattle.rows.proofs.Numbered.{get-by_number}
+use Rattle.rows.proofs.Blows.{Undrawn, Out, was_drawn, was_reported}
+use Rattle.runs.specs.declared.call.Call.{Call}
+use Rattle.runs.specs.declared.call.Call.TheVariants as call
+use Rattle.runs.specs.declared.call.Reply.TheVariants as reply
+use Rattle.runs.specs.Runs.{Answer, done, answer_to, after, answers_to}
+use Rattle.runs.specs.Promise.{is_accepted_as, count_accepted, draws, hands_out, gives_back, OrdersOnce}
+use Rattle.runs.specs.Theorems.{AfterCalls}
+use Rattle.runs.proofs.Made.{checked}
+use Rattle.runs.proofs.Following.{was_played}
+
+-- a box that rings has an order drawn; that of round k is out
+abbrev is_taken : {K : Type 0} → Option (Stand K) → Bool
+is_taken None = false
+is_taken (Some (at_rest b)) = false
+is_taken (Some (down r)) = false
+is_taken (Some (rung x)) = not (is_undrawn x.blow)
+
+abbrev outs : {K : Type 0} → ℕ → Option (Stand K) → Bool
+outs k o = out_in (record { 0 = k }) o
+
+-- a call moves what stands at place p: what is handed out was not yet, and what is given back was out
+record Moves {K : Type 0} (p : ℕ) (c : Call) (a : Answer K) (o then : Option (Stand K)) : Type 0 where
+  draw : cond (is_accepted_as (draws p) c a) 1 0 + cond (is_taken then) 0 1 ≤ cond (is_taken o) 0 1
+  back : (k : ℕ) → cond (is_accepted_as (gives_back p k) c a) 1 0 + cond (outs k then) 1 0 ≤ cond (is_accepted_as (hands_out p k) c a) 1 0 + cond (outs k o) 1 0
+
+-- nothing moves
+abbrev Idle : {K : Type 0} → ℕ → Call → Answer K → Type 0
+Idle p c a = (is_accepted_as (draws p) c a ≡ false) × ((k : ℕ) → (is_accepted_as (gives_back p k) c a ≡ false) × (is_accepted_as (hands_out p k) c a ≡ false))
+
+stays : {K : Type 0} (p : ℕ) (c : Call) (a : Answer K) (o then : Option (Stand K)) → is_taken then ≡ is_taken o → ((k : ℕ) → outs k then ≡ outs k o) → Idle p c a → Moves p c a o then
+stays p c a o then t u i = record { draw = grind (arith, i.0, t); back = λ k. let e = i.1 k in let f = u k in grind (arith, e.0, e.1, f) }
+
+unmoved : {K : Type 0} (p : ℕ) (c : Call) (a : Answer K) (o : Option (Stand K)) → Idle p c a → Moves p c a o o
+unmoved p c a o = stays p c a o o refl (λ k. refl)
+
+refused : (K : Type 0) (p : ℕ) (c : Call) (e : Refusal) → Idle {K = K} p c (Err e)
+refused K p c e = (refl, λ k. (refl, refl))
+
+-- the same place twice, or another
+own_place : (p q : ℕ) → (eqb p q ≡ true) → (eqb q p ≡ true) × (p ≡ q)
+own_place p q e = let s = eqb-true p q e in (grind (arith, nat_tests), s)
+
+other_place : (p q : ℕ) → (eqb p q ≡ false) → eqb q p ≡ false
+other_place p q e = grind (arith, nat_tests)
+
+module _ {K : Type 0} (leads : K → K → Bool) (image : K → List ℕ) (s : State K) (p : ℕ) where
+  abbrev o : Option (Stand K)
+  o = slice_get s.row p
+
+  abbrev place : State K → Option (Stand K)
+  place x = slice_get x.row p
+
+  blow_at : (b : Blow) (q : ℕ) → place (with_blow b q s) ≡ option_map (λ x. cond (eqb p q) (come_to b x) x) o
+  blow_at b q = get-by_number (λ k x. cond (eqb k q) (come_to b x) x) s.row p
+
+  -- another blow leaves the place
+  other_blow : (b : Blow) (q : ℕ) → eqb p q ≡ false → place (with_blow b q s) ≡ o
+  other_blow b q e = blow_at b q ∙ ap (λ t. option_map (λ x. cond t (come_to b x) x) o) e ∙ by o
+    where
+      by : (o : Option (Stand K)) → option_map (λ x. x) o ≡ o
+      by None = refl
+      by (Some x) = refl
+
+  -- ---- falls and rounds
+
+  fall_row : (q : BoxNumber) (lost : BoxSet) → (or_kept s (telling q lost s)).row ≡ s.row
+  unfolding telling
+  fall_row q lost = grind arith
+
+  after_taken : (x : Option (Stand K)) → is_taken (option_map (stand_after leads s p) x) ≡ is_taken x
+  after_taken None = refl
+  after_taken (Some (at_rest b)) = by (is_some (s.wire.lost p)) (ruled_outcome leads b (heard_by s p))
+    where
+      by : (t : Bool) (x : Outcome K) → is_taken (Some (cond t (down (coming s)) (stand_of x))) ≡ false
+      by true x = refl
+      by false (rests b) = refl
+      by false (rings r v) = refl
+  after_taken (Some (down r)) = refl
+  after_taken (Some (rung x)) = refl
+
+  after_outs : (k : ℕ) (x : Option (Stand K)) → outs k (option_map (stand_after leads s p) x) ≡ outs k x
+  after_outs k None = refl
+  after_outs k (Some (at_rest b)) = by (is_some (s.wire.lost p)) (ruled_outcome leads b (heard_by s p))
+    where
+      by : (t : Bool) (x : Outcome K) → outs k (Some (cond t (down (coming s)) (stand_of x))) ≡ false
+      by true x = refl
+      by false (rests b) = refl
+      by false (rings r v) = refl
+  after_outs k (Some (down r)) = refl
+  after_outs k (Some (rung x)) = refl
+
+  -- ---- each call
+
+  give : (b : Blow) (c : Call) (q : BoxNumber) (r : RoundNumber) → is_out b ≡ false → is_undrawn b ≡ false
+      → ((k : ℕ) → is_accepted_as {K = K} (gives_back p k) c (Ok reply.Done) ≡ (eqb q.0 p && eqb r.0 k)) → is_accepted_as {K = K} (draws p) c (Ok reply.Done) ≡ false
+      → ((k : ℕ) → is_accepted_as {K = K} (hands_out p k) c (Ok reply.Done) ≡ false)
+      → (z : Result (State K) Refusal) → reporting b q r s ≡ z → Moves p c (done z) o (place (or_kept s z))
+  give b c q r in_hand taken gives no_draw no_hand (Err e) is = unmoved p c (Err e) o (refused K p c e)
+  give b c q r in_hand taken gives no_draw no_hand (Ok then) is = by (was_reported s q b r then is) (cases_Bool (eqb p q.0))
+    where
+      by : Out s b q.0 r then → (eqb p q.0 ≡ true) ⊎ (eqb p q.0 ≡ false) → Moves p c (Ok reply.Done) o (place then)
+      by d (inr e) = stays p c (Ok reply.Done) o (place then) (ap is_taken (ap place d.is ∙ other_blow b q.0 e)) (λ k. ap (outs k) (ap place d.is ∙ other_blow b q.0 e))
+          (no_draw, λ k. let g = gives k in let f = other_place p q.0 e in (grind (arith, f), no_hand k))
+      by d (inl e) =
+          let w = own_place p q.0 e in
+          let there : o ≡ Some (rung d.x) = ap (slice_get s.row) w.1 ∙ d.there in
+          let then_there : place then ≡ Some (rung (record d.x { blow = b })) = ap place d.is ∙ blow_at b q.0 ∙ (λ j. option_map (λ x. cond (e j) (come_to b x) x) (there j)) in
+          record {
+            draw = let t : is_taken o ≡ true = (let u = d.out in ap is_taken there ∙ out_taken d.x.blow u) in
+                let v : is_taken (place then) ≡ true = ap is_taken then_there ∙ ap not taken in
+                grind (arith, no_draw, t, v);
+            back = λ k. let t : outs k o ≡ eqb r.0 k = ap (outs k) there ∙ (let u = d.out in let v = d.round in grind arith) in
+                let v : outs k (place then) ≡ false = ap (outs k) then_there ∙ (grind arith) in
+                let g : is_accepted_as {K = K} (gives_back p k) c (Ok reply.Done) ≡ eqb r.0 k = gives k ∙ ap (λ t. t && eqb r.0 k) w.0 in
+                let h = no_hand k in
+                grind (arith, t, v, g, h);
+          }
+        where
+          out_taken : (b : Blow) → is_out b ≡ true → not (is_undrawn b) ≡ true
+          out_taken blow.Rings e = absurd (grind arith)
+          out_taken blow.Out e = refl
+          out_taken blow.Struck e = refl
+          out_taken blow.Missed e = refl
+
+  hand : (q : BoxNumber) (z : Result (RoundNumber × State K) Refusal) → drawing q s ≡ z
+      → Moves p (call.Draw q) (result_map_both (λ x. reply.Drawn x.0) (λ e. e) z) o (place (or_kept s (drawn z)))
+  hand q (Err e) is = unmoved p (call.Draw q) (Err e) o (refused K p (call.Draw q) e)
+  hand q (Ok (r, then)) is = by (was_drawn s q r then is) (cases_Bool (eqb p q.0))
+    where
+      by : Undrawn s q.0 r then → (eqb p q.0 ≡ true) ⊎ (eqb p q.0 ≡ false) → Moves p (call.Draw q) (Ok (reply.Drawn r)) o (place then)
+      by d (inr e) = let f = other_place p q.0 e in
+          stays p (call.Draw q) (Ok (reply.Drawn r)) o (place then) (ap is_taken (ap place d.is ∙ other_blow blow.Out q.0 e)) (λ k. ap (outs k) (ap place d.is ∙ other_blow blow.Out q.0 e))
+          (f, λ k. (refl, ap (λ t. t && eqb r.0 k) f))
+      by d (inl e) =
+          let w = own_place p q.0 e in
+          let there : o ≡ Some (rung d.x) = ap (slice_get s.row) w.1 ∙ d.there in
+          let then_there : place then ≡ Some (rung (record d.x { blow = blow.Out })) = ap place d.is ∙ blow_at blow.Out q.0 ∙ (λ j. option_map (λ x. cond (e j) (come_to blow.Out x) x) (there j)) in
+          record {
+            draw = let t : is_taken o ≡ false = ap is_taken there ∙ ap not d.new in
+                let v : is_taken (place then) ≡ true = ap is_taken then_there in
+                let f = w.0 in
+                grind (arith, t, v, f);
+            back = λ k. let v : outs k (place then) ≡ eqb r.0 k = ap (outs k) then_there ∙ ap (λ x. eqb x.0 k) (sym d.round) in
+                let f = w.0 in
+                grind (arith, v, f);
+          }
+
+  moves : (c : Call) → Moves p c (answer_to leads image c s) o (place (after leads image c s))
+  moves (call.Fall q lost) = by (telling q lost s) (ap (λ r. slice_get r p) (fall_row q lost))
+    where
+      by : (z : Result (State K) Refusal) → place (or_kept s z) ≡ o → Moves p (call.Fall q lost) (done z) o (place (or_kept s z))
+      by (Ok then) e = stays p (call.Fall q lost) (Ok reply.Done) o (place then) (ap is_taken e) (λ k. ap (outs k) e) (refl, λ k. (refl, refl))
+      by (Err x) e = unmoved p (call.Fall q lost) (Err x) o (refused K p (call.Fall q lost) x)
+  moves (call.Round room) = by (playing leads image room s) refl
+    where
+      by : (z : Result (State K) Refusal) → playing leads image room s ≡ z → Moves p (call.Round room) (done z) o (place (or_kept s z))
+      by (Err x) e = unmoved p (call.Round room) (Err x) o (refused K p (call.Round room) x)
+      by (Ok then) e =
+          let at : place then ≡ option_map (stand_after leads s p) o = ap place (was_played leads image room s then e).is ∙ get-by_number (stand_after leads s) s.row p in
+          stays p (call.Round room) (Ok reply.Done) o (place then) (ap is_taken at ∙ after_taken o) (λ k. ap (outs k) at ∙ after_outs k o) (refl, λ k. (refl, refl))
+  moves (call.Ask q) = unmoved p (call.Ask q) (answer_to leads image (call.Ask q) s) o (by (answer_to leads image (call.Ask q) s))
+    where
+      by : (a : Answer K) → Idle p (call.Ask q) a
+      by (Ok r) = (refl, λ k. (refl, refl))
+      by (Err x) = refused K p (call.Ask q) x
+  moves (call.Draw q) = hand q (drawing q s) refl
+  moves (call.Struck q r) = give blow.Struck (call.Struck q r) q r refl refl (λ k. refl) refl (λ k. refl) (reporting blow.Struck q r s) refl
+  moves (call.Missed q r) = give blow.Missed (call.Missed q r) q r refl refl (λ k. refl) refl (λ k. refl) (reporting blow.Missed q r s) refl
+
+module _ {K : Type 0} (leads : K → K → Bool) (image : K → List ℕ) (p : ℕ) where
+  once : (calls : List Call) (s : State K)
+      → (count_accepted (draws p) calls (answers_to leads image calls s) ≤ cond (is_taken (slice_get s.row p)) 0 1)
+      × ((k : ℕ) → count_accepted (gives_back p k) calls (answers_to leads image calls s)
+      ≤ count_accepted (hands_out p k) calls (answers_to leads image calls s) + cond (outs k (slice_get s.row p)) 1 0)
+  unfolding count_accepted answers_to
+  once [] s = (omega arith, λ k. omega arith)
+  once (c ∷ calls) s =
+      let m = moves leads image s p c in
+      let ih = once calls (after leads image c s) in
+      (omega (arith, m.draw, ih.0), λ k. omega (arith, m.back k, ih.1 k))
+
+-- in a row of a ringing that is made no order is out
+none_out : {K : Type 0} (n t places : ℕ) (m : Meaning) (proposals : List K) (s : State K) → making n t m places proposals ≡ Ok s
+    → (p k : ℕ) → outs k (slice_get s.row p) ≡ false
+none_out {K} n t places m proposals s made p k =
+    ap (λ x. outs k (slice_get x.row p)) (checked n t places m proposals s made).is
+    ∙ ap (outs k) (get-by_number (λ p v. at_rest (first_held (record { 0 = p }) n t v)) proposals p) ∙ by (slice_get proposals p)
+  where
+    by : (o : Option K) → outs k (option_map (λ v. at_rest (first_held (record { 0 = p }) n t v)) o) ≡ false
+    by None = refl
+    by (Some v) = refl
+
+pub orders_once : {K : Type 0} (leads : K → K → Bool) (image : K → List ℕ) → AfterCalls leads image (λ unopened calls answers s c. OrdersOnce calls answers)
+orders_once leads image n t places m proposals s formed made past_end calls p =
+    let o = once leads image p calls s in
+    (by o.0 (is_taken (slice_get s.row p)), λ k. let b = o.1 k in let none = none_out n t places m proposals s made p k in grind (arith, b, none))
+  where
+    by : {m : ℕ} → m ≤ cond (is_taken (slice_get s.row p)) 0 1 → (t : Bool) → m ≤ 1
+    by l t = grind (arith, l)

@@ -1,0 +1,93 @@
+-- The promise: what is told of the boxes after a list of calls, by the history that the calls and their answers give. Assumes nothing.
+use Rattle.std.specs.Prelude.{◌≡◌, ℕ, ◌+◌, ◌<◌, ◌≤◌, Bool, true, false, cond, ◌&&◌, List, [], ◌∷◌, Ok, Err, Result, ◌==◌, nat_le, nat_lt}
+use Rattle.numbers.specs.declared.refusal.Refusal.{Refusal}
+use Rattle.sets.specs.declared.labels.BoxNumber.{BoxNumber}
+use Rattle.kinds.specs.Orders.{before}
+use Rattle.rule.specs.Falls.{closes}
+use Rattle.rule.specs.Histories.{History, ringing_round}
+use Rattle.rule.specs.Values.{estimate}
+use Rattle.rows.specs.declared.place.Rung.{Rung}
+use Rattle.rows.specs.declared.place.Standing.{Standing}
+use Rattle.rows.specs.declared.place.Standing.TheVariants as standing
+use Rattle.rows.specs.Calls.{State, asking}
+use Rattle.runs.specs.declared.call.Call.{Call}
+use Rattle.runs.specs.declared.call.Call.TheVariants as call
+use Rattle.runs.specs.declared.call.Reply.{Reply}
+use Rattle.runs.specs.declared.call.Reply.TheVariants as reply
+use Rattle.runs.specs.Runs.{Answer}
+
+-- ---- all ring at once
+
+-- it is told of box p that it rings: so in round, proposal and blow. The blow may be any: rings, out, struck and missed all count as ringing
+abbrev pub ToldRinging : {K : Type 0} → State K → BoxNumber → Rung K → Type 0
+ToldRinging s p x = asking p s ≡ Ok (standing.Rung x)
+
+-- whether what is told is that the box rings
+abbrev pub tells_ringing : {K : Type 0} → Result (Standing K) Refusal → Bool
+tells_ringing (Ok standing.Up) = false
+tells_ringing (Ok (standing.Down r)) = false
+tells_ringing (Ok (standing.Rung x)) = true
+tells_ringing (Err e) = false
+
+-- box p is of the company and closed round r: r is one of the rounds closed, which are 1 to their count, and p fell neither before it nor in it
+abbrev pub has_closed : {K : Type 0} → History K → ℕ → ℕ → Bool
+has_closed h p r = nat_lt p h.n && nat_le 1 r && nat_le r h.closed && closes h.falls p r
+
+pub record OneRing {K : Type 0} (leads : K → K → Bool) (s : State K) (h : History K) : Type 0 where
+  -- all boxes that ring do so in one round and on one proposal
+  pub one_round : (p q : BoxNumber) (x y : Rung K) → ToldRinging s p x → ToldRinging s q y → x.round ≡ y.round
+  pub one_proposal : (p q : BoxNumber) (x y : Rung K) → ToldRinging s p x → ToldRinging s q y → x.proposal ≡ y.proposal
+  -- which is the estimate that each of them reaches in that round, by who hears whom
+  pub reached : (p : BoxNumber) (x : Rung K) → ToldRinging s p x → x.proposal ≡ estimate h leads p.0 x.round.0
+  -- a box proposed it, and no ringing box proposed one that goes before it
+  pub proposed : (p : BoxNumber) (x : Rung K) → ToldRinging s p x → (q : ℕ) × (q < h.n) × (x.proposal ≡ h.proposals q)
+  pub foremost : (p q : BoxNumber) (x y : Rung K) → ToldRinging s p x → ToldRinging s q y → before leads (h.proposals q.0) x.proposal ≡ false
+  -- a box rings exactly when it closed round t + 1 - D, and that is the one round
+  pub exactly : (p : BoxNumber) → tells_ringing (asking p s) ≡ has_closed h p.0 (ringing_round h)
+  pub at : (p : BoxNumber) (x : Rung K) → ToldRinging s p x → x.round.0 ≡ ringing_round h
+
+-- ---- each strike order is given back at most once
+
+-- the call is accepted, and passes a test, which is of a call and its reply; how many of a list do
+abbrev pub is_accepted_as : {K : Type 0} → (Call → Reply K → Bool) → Call → Answer K → Bool
+is_accepted_as test c (Ok r) = test c r
+is_accepted_as test c (Err e) = false
+
+unfoldable pub count_accepted : {K : Type 0} → (Call → Reply K → Bool) → List Call → List (Answer K) → ℕ
+count_accepted test [] answers = 0
+count_accepted test (c ∷ calls) [] = 0
+count_accepted test (c ∷ calls) (a ∷ answers) = cond (is_accepted_as test c a) 1 0 + count_accepted test calls answers
+
+module _ {K : Type 0} where
+  -- the call draws an order of box p
+  abbrev pub draws : ℕ → Call → Reply K → Bool
+  draws p (call.Draw q) r = q.0 == p
+  draws p (call.Fall q lost) r = false
+  draws p (call.Round room) r = false
+  draws p (call.Ask q) r = false
+  draws p (call.Struck q k) r = false
+  draws p (call.Missed q k) r = false
+
+  -- and it is of round k
+  abbrev pub drawn_for : ℕ → Reply K → Bool
+  drawn_for k reply.Done = false
+  drawn_for k (reply.Told x) = false
+  drawn_for k (reply.Drawn r) = r.0 == k
+
+  abbrev pub hands_out : ℕ → ℕ → Call → Reply K → Bool
+  hands_out p k c r = draws p c r && drawn_for k r
+
+  -- the call gives back the order of box p and round k, as struck or as missed
+  abbrev pub gives_back : ℕ → ℕ → Call → Reply K → Bool
+  gives_back p k (call.Struck q r) _ = q.0 == p && r.0 == k
+  gives_back p k (call.Missed q r) _ = q.0 == p && r.0 == k
+  gives_back p k (call.Fall q lost) _ = false
+  gives_back p k (call.Round room) _ = false
+  gives_back p k (call.Ask q) _ = false
+  gives_back p k (call.Draw q) _ = false
+
+  -- of each box an order is handed out at most once, and each order is given back at most as often as it was handed out
+  abbrev pub OrdersOnce : List Call → List (Answer K) → Type 0
+  OrdersOnce calls answers = (p : ℕ)
+      → (count_accepted (draws p) calls answers ≤ 1)
+      × ((k : ℕ) → count_accepted (gives_back p k) calls answers ≤ count_accepted (hands_out p k) calls answers)
