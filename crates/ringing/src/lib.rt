@@ -7,5 +7,7 @@ mod guard;
 mod make;
 mod ringing;
 mod round;
+mod strike;
 
 pub use ringing::Ringing;
+pub use strike::StrikeOrder;

@@ -36,7 +36,7 @@ fn check_making<W: Wire, K: Kind>(
 }
 
 // By itself, since the prover bounds the place in memory of an element of unknown size only in a function that does no more.
-fn put<K: Kind>(row: &mut [Place<K>], p: usize, place: Place<K>)
+pub(crate) fn put<K: Kind>(row: &mut [Place<K>], p: usize, place: Place<K>)
     requires { p < length row.old }
     ensures { row.new ≡ set row.old p place }
 {

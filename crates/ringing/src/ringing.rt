@@ -26,13 +26,15 @@ impl<W: Wire> Ringing<W> {
     ghost use Rattle.std.specs.Result.{result_map_both};
     ghost use Rattle.frames.specs.Faults.{map_fault};
     ghost use Rattle.rows.specs.Calls.{making, telling, asking, answer, or_kept};
-    ghost use Rattle.runs.specs.Runs.{Call, first_history, state_after, history_after};
-    ghost use Rattle.runs.specs.Theorems.{Follows};
+    ghost use Rattle.runs.specs.declared.call.Call.{Call};
+    ghost use Rattle.runs.specs.Runs.{first_history, undrawn};
+    ghost use Rattle.runs.specs.Theorems.{Promised};
     ghost use Rattle.ringing.specs.States.{state};
 
     // Makes a ringing of n boxes, of which t may fall, over a wire, and sets up a new box with its proposal in each place of the
     // row. A refused make gives the wire back and leaves the row as it was. After an accepted one and any calls, accepted or refused, each
-    // handed the row as the call before left it, the ringing and its row are those of the history of the calls.
+    // handed the row as the call before left it, the ringing and its row are those of the history of the calls, all boxes that ring do so in one
+    // round and on one proposal, and each strike order is given back at most once.
     pub fn make<K: Kind>(
         n: u32,
         t: u32,
@@ -42,7 +44,7 @@ impl<W: Wire> Ringing<W> {
     ) -> Result<Ringing<W>, (W, Refusal)>
         ensures ringing { result_map_both (λ r. state (W.meaning r.wire) r.t r.closed row.new) (λ e. e) result ≡ map_fault (λ e. (wire, e)) (making n t (W.meaning wire) (length row.old) proposals.now) }
         ensures refused { OnErr result (row.new ≡ row.old) }
-        ensures follows { let m = W.meaning wire in IfOk (making n t m (length row.old) proposals.now) (λ s. (past_end : K) (calls : List Call) → let h = history_after K.leads K.image calls s (first_history n t proposals.now past_end) in Follows K.leads K.image m.posted (state_after K.leads K.image calls s) h) }
+        ensures promised { let m = W.meaning wire in IfOk (making n t m (length row.old) proposals.now) (λ s. (past_end : K) (calls : List Call) → Promised K.leads K.image m.posted calls s (undrawn (first_history n t proposals.now past_end))) }
     {
         let _ = calls_follow::<K>();
         match set_up(n, t, &wire, row, proposals) {

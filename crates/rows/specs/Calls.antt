@@ -22,6 +22,7 @@ use Rattle.wire.specs.Meaning as wire
 use Rattle.wire.specs.Meaning.{Meaning, is_lost, falling}
 use Rattle.rows.specs.declared.place.Blow.{Blow}
 use Rattle.rows.specs.declared.place.Blow.TheVariants as blow
+use Rattle.rows.specs.declared.place.Rung.{Rung}
 use Rattle.rows.specs.declared.place.Standing.{Standing}
 use Rattle.rows.specs.Numbered.{by_number, any_numbered}
 use Rattle.rows.specs.Places.{Stand, at_rest, down, rung, stand_of, standing_of, rung_of, come_to, is_undrawn, is_out}
@@ -158,13 +159,17 @@ module _ {K : Type 0} where
   abbrev pub with_blows : (ℕ → Blow) → State K → State K
   with_blows blows s = record s { row = by_number (λ q x. come_to (blows q) x) s.row }
 
-  -- drawing the order of box p: it is of the round in which p rings, and then out
-  unfoldable pub drawing : BoxNumber → State K → Result (RoundNumber × State K) Refusal
-  drawing p s =
+  -- how box p rings, if its order may be drawn
+  unfoldable pub drawable : BoxNumber → State K → Result (Rung K) Refusal
+  drawable p s =
       and_then (λ e. e) (row_checked s) (λ _.
       and_then (λ e. e) (ok_or (slice_get s.row p.0) refusal.Stranger) (λ place.
       and_then (λ e. e) (ok_or (rung_of place) refusal.Silent) (λ x.
-      unless ((not (is_undrawn x.blow), refusal.Order) ∷ []) (x.round, with_blow blow.Out p.0 s))))
+      unless ((not (is_undrawn x.blow), refusal.Order) ∷ []) x)))
+
+  -- drawing it: the order is of the round in which p rings, and then out
+  unfoldable pub drawing : BoxNumber → State K → Result (RoundNumber × State K) Refusal
+  drawing p s = result_map_both (λ x. (x.round, with_blow blow.Out p.0 s)) (λ e. e) (drawable p s)
 
   -- what stands at a place rings in round r, and its order is out
   abbrev pub out_in : RoundNumber → Option (Stand K) → Bool

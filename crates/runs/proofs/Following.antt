@@ -8,18 +8,17 @@ use Rattle.sets.specs.declared.labels.BoxNumber.{BoxNumber}
 use Rattle.sets.specs.declared.labels.RoundNumber.{RoundNumber}
 use Rattle.sets.specs.declared.set.BoxSet.{BoxSet}
 use Rattle.sets.specs.Masks.{member}
-use Rattle.wire.specs.Meaning.{fallen, falling}
+use Rattle.wire.specs.Meaning.{Meaning, WellFormed, fallen, falling}
 use Rattle.rule.specs.Falls.{with_fall}
 use Rattle.rule.specs.Histories.{History}
 use Rattle.rule.specs.Theorems.{BoxBegins, BoxFollows, OnlyPast, FallToCome}
 use Rattle.rows.specs.declared.place.Blow.{Blow}
-use Rattle.rows.specs.Calls.{State, gone_count, over, telling, playing, played, with_blow, drawing, drawn, reporting, or_kept}
+use Rattle.rows.specs.Calls.{State, making, gone_count, over, telling, playing, played, with_blow, drawing, drawn, reporting, or_kept}
 use Rattle.rows.proofs.Blows.{blow_on, rung_over, was_drawn, was_reported}
 use Rattle.runs.specs.declared.call.Call.{Call}
 use Rattle.runs.specs.declared.call.Call.TheVariants as call
 use Rattle.runs.specs.declared.call.Reply.TheVariants as reply
 use Rattle.runs.specs.Runs.{Answer, Course, first_history, undrawn, done, blown, noted, course_after, answer_to, after, state_after, answers_to, state_by}
-use Rattle.runs.specs.Theorems.{AfterCalls}
 use Rattle.runs.proofs.Pictured.{n_is}
 use Rattle.runs.proofs.Going.{Going, Kept}
 use Rattle.runs.proofs.Blown.{kept, base_over, none_drawn, going_now}
@@ -132,7 +131,9 @@ module _ {K : Type 0} (leads : K → K → Bool) (image : K → List ℕ) (unope
 
 -- so the course holds the state after every list of calls
 pub calls_kept : {K : Type 0} (leads : K → K → Bool) (image : K → List ℕ) → FallToCome → ((h : History K) → OnlyPast h leads) → ((h : History K) → BoxBegins h leads)
-    → ((h : History K) → BoxFollows h leads) → AfterCalls leads image (λ unopened calls answers s c. Kept leads image unopened s c)
+    → ((h : History K) → BoxFollows h leads)
+    → (n t places : ℕ) (m : Meaning) (proposals : List K) (s : State K) → WellFormed m → making n t m places proposals ≡ Ok s → (past_end : K) (calls : List Call)
+    → Kept leads image m.posted (state_after leads image calls s) (course_after calls (answers_to leads image calls s) (undrawn (first_history n t proposals past_end)))
 calls_kept leads image coming only_past begins follows n t places m proposals s formed made past_end calls =
     let h = first_history n t proposals past_end in
     all leads image m.posted coming only_past follows calls s (undrawn h)

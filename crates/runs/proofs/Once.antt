@@ -23,7 +23,6 @@ use Rattle.runs.specs.declared.call.Call.TheVariants as call
 use Rattle.runs.specs.declared.call.Reply.TheVariants as reply
 use Rattle.runs.specs.Runs.{Answer, done, answer_to, after, answers_to}
 use Rattle.runs.specs.Promise.{is_accepted_as, count_accepted, draws, hands_out, gives_back, OrdersOnce}
-use Rattle.runs.specs.Theorems.{AfterCalls}
 use Rattle.runs.proofs.Made.{checked}
 use Rattle.runs.proofs.Following.{was_played}
 
@@ -209,8 +208,9 @@ none_out {K} n t places m proposals s made p k =
     by None = refl
     by (Some v) = refl
 
-pub orders_once : {K : Type 0} (leads : K → K → Bool) (image : K → List ℕ) → AfterCalls leads image (λ unopened calls answers s c. OrdersOnce calls answers)
-orders_once leads image n t places m proposals s formed made past_end calls p =
+pub orders_once : {K : Type 0} (leads : K → K → Bool) (image : K → List ℕ) (n t places : ℕ) (m : Meaning) (proposals : List K) (s : State K)
+    → making n t m places proposals ≡ Ok s → (calls : List Call) → OrdersOnce calls (answers_to leads image calls s)
+orders_once leads image n t places m proposals s made calls p =
     let o = once leads image p calls s in
     (by o.0 (is_taken (slice_get s.row p)), λ k. let b = o.1 k in let none = none_out n t places m proposals s made p k in grind (arith, b, none))
   where

@@ -20,7 +20,7 @@ use Rattle.rows.specs.declared.place.Rung.{Rung}
 use Rattle.rows.specs.Places.{rung, standing_of, come_to, is_undrawn, is_out}
 use Rattle.rows.specs.Calls.{State, making, bad_row, telling, playing, drawing, reporting, asking, with_blows}
 use Rattle.runs.specs.declared.call.Call.{Call}
-use Rattle.runs.specs.Runs.{Answer, Course, first_history, undrawn, course_after, state_after, answers_to, stand_by, state_by}
+use Rattle.runs.specs.Runs.{Course, first_history, undrawn, course_after, state_after, answers_to, stand_by, state_by}
 use Rattle.runs.specs.Promise.{OneRing, OrdersOnce}
 
 -- a box of the company that closed the last round rings in it
@@ -55,18 +55,14 @@ pub record Follows {K : Type 0} (leads : K → K → Bool) (image : K → List �
   pub rings : (p : ℕ) (x : Rung K) → slice_get s.row p ≡ Some (rung x) → (x.round.0 ≡ c.history.closed) × (x.proposal ≡ estimate c.history leads p c.history.closed) × (x.blow ≡ c.blows p)
   pub told : (p : BoxNumber) → asking p s ≡ unless ((nat_le c.history.n p.0, Stranger) ∷ []) (standing_of (come_to (c.blows p.0) (stand_by leads c.history p.0)))
 
--- what holds after every list of calls, accepted or refused, from the making of a ringing on: of the state, of the list with its answers, and of the
--- course that these give
-abbrev pub AfterCalls : {K : Type 0} → (K → K → Bool) → (K → List ℕ) → ((ℕ → Option (List ℕ)) → List Call → List (Answer K) → State K → Course K → Type 0) → Type 0
-AfterCalls {K} leads image Holds = (n t places : ℕ) (m : Meaning) (proposals : List K) (s : State K) → WellFormed m → making n t m places proposals ≡ Ok s
-    → (past_end : K) (calls : List Call)
-    → let answers = answers_to leads image calls s in
-    Holds m.posted calls answers (state_after leads image calls s) (course_after calls answers (undrawn (first_history n t proposals past_end)))
+-- what is promised of calls from a state on, accepted or refused, where this course led up to it. By the course that they and their answers give: the
+-- ringing with its row is that of the course; all boxes that ring do so at once; and each strike order is given back at most once
+pub record Promised {K : Type 0} (leads : K → K → Bool) (image : K → List ℕ) (unopened : ℕ → Option (List ℕ)) (calls : List Call) (s : State K) (first : Course K) : Type 0 where
+  pub follows : Follows leads image unopened (state_after leads image calls s) (course_after calls (answers_to leads image calls s) first)
+  pub one_ring : OneRing leads (state_after leads image calls s) (course_after calls (answers_to leads image calls s) first).history
+  pub orders : OrdersOnce calls (answers_to leads image calls s)
 
--- the ringing with its row is that of the course
-abbrev pub CallsFollow : {K : Type 0} → (K → K → Bool) → (K → List ℕ) → Type 0
-CallsFollow leads image = AfterCalls leads image (λ unopened calls answers s c. Follows leads image unopened s c)
-
--- the promise
-abbrev pub CallsRingOnce : {K : Type 0} → (K → K → Bool) → (K → List ℕ) → Type 0
-CallsRingOnce leads image = AfterCalls leads image (λ unopened calls answers s c. OneRing leads s c.history × OrdersOnce calls answers)
+-- it is so of every list of calls, from the making on
+abbrev pub CallsPromised : {K : Type 0} → (K → K → Bool) → (K → List ℕ) → Type 0
+CallsPromised {K} leads image = (n t places : ℕ) (m : Meaning) (proposals : List K) (s : State K) → WellFormed m → making n t m places proposals ≡ Ok s
+    → (past_end : K) (calls : List Call) → Promised leads image m.posted calls s (undrawn (first_history n t proposals past_end))

@@ -1,6 +1,6 @@
 // What holds after every list of calls on a ringing, on the contract of a function; what the function returns is of no meaning.
 ghost use Rattle.std.specs.Prelude.{◌≡◌};
-ghost use Rattle.runs.specs.Theorems.{CallsFollow, CallsRingOnce};
+ghost use Rattle.runs.specs.Theorems.{CallsPromised};
 
 use kinds::Kind;
 use rule::{box_follows, rule_stands};
@@ -9,8 +9,7 @@ use rule::{box_follows, rule_stands};
 // gives for the history of the calls; all boxes that ring do so at once; and each strike order is given back at most once.
 pub fn calls_follow<K: Kind>() -> u8
     ensures zero { result ≡ 0 }
-    ensures follow { CallsFollow K.leads K.image }
-    ensures ring_once { CallsRingOnce K.leads K.image }
+    ensures promised { CallsPromised K.leads K.image }
 {
     rule_stands::<K>() + box_follows::<K>()
 }

@@ -10,12 +10,13 @@ returns g c =
     let k = g.K.Kind in
     let rule = c.rule_stands.ensures in
     let boxes = c.box_follows.ensures in
-    let kept = calls_kept k.leads k.image rule.coming rule.past boxes.begins boxes.follows in
     record {
       zero = let z = rule.zero in let y = boxes.zero in omega arith;
-      follow = λ n t places m proposals s formed made past_end calls. follows k.leads k.image m.posted _ _ (kept n t places m proposals s formed made past_end calls);
-      ring_once = λ n t places m proposals s formed made past_end calls. (
-        rings_once k.leads k.image m.posted _ _ rule.agree (kept n t places m proposals s formed made past_end calls),
-        orders_once k.leads k.image n t places m proposals s formed made past_end calls,
-      );
+      promised = λ n t places m proposals s formed made past_end calls.
+          let kept = calls_kept k.leads k.image rule.coming rule.past boxes.begins boxes.follows n t places m proposals s formed made past_end calls in
+          record {
+            follows = follows k.leads k.image m.posted _ _ kept;
+            one_ring = rings_once k.leads k.image m.posted _ _ rule.agree kept;
+            orders = orders_once k.leads k.image n t places m proposals s made calls;
+          };
     }

@@ -16,14 +16,14 @@ returns-in-Err-clause-ringing g c =
     let m = g.W.Wire.meaning c.args.wire in
     sym (ap (map_fault (λ e. (c.args.wire, e))) (makes_not c.args.n c.args.t m (length c.args.row.now) c.args.proposals.now c.in-Err.refusal c.in-Err.ensures.answer))
 
-pub returns-in-Ok-clause-follows : goal.returns-in-Ok-clause-follows
-returns-in-Ok-clause-follows g c =
+pub returns-in-Ok-clause-promised : goal.returns-in-Ok-clause-promised
+returns-in-Ok-clause-promised g c =
     let m = g.W.Wire.meaning c.args.wire in
     if_made _ (making c.args.n c.args.t m (length c.args.row.now) c.args.proposals.now) (λ s made.
-    c.calls_follow.ensures.follow c.args.n c.args.t (length c.args.row.now) m c.args.proposals.now s (g.met.W.Wire.formed c.args.wire) made)
+    c.calls_follow.ensures.promised c.args.n c.args.t (length c.args.row.now) m c.args.proposals.now s (g.met.W.Wire.formed c.args.wire) made)
 
-pub returns-in-Err-clause-follows : goal.returns-in-Err-clause-follows
-returns-in-Err-clause-follows g c =
+pub returns-in-Err-clause-promised : goal.returns-in-Err-clause-promised
+returns-in-Err-clause-promised g c =
     let m = g.W.Wire.meaning c.args.wire in
     if_made _ (making c.args.n c.args.t m (length c.args.row.now) c.args.proposals.now) (λ s made.
-    c.calls_follow.ensures.follow c.args.n c.args.t (length c.args.row.now) m c.args.proposals.now s (g.met.W.Wire.formed c.args.wire) made)
+    c.calls_follow.ensures.promised c.args.n c.args.t (length c.args.row.now) m c.args.proposals.now s (g.met.W.Wire.formed c.args.wire) made)
