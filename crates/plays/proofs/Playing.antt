@@ -11,8 +11,12 @@ use Rattle.rule.specs.Histories.{History, Allowed}
 use Rattle.rule.specs.Values as rule
 use Rattle.rule.specs.Theorems.{Agreement, SomeRemains, OnlyPast, FallToCome}
 use Rattle.rows.specs.Calls.{State, making, bad_row, over, playing}
-use Rattle.runs.specs.Runs.{Call, round, after, state_after, all_accepted, state_by}
-use Rattle.runs.specs.Theorems.{somebody_rings, Follows, CallsFollow}
+use Rattle.runs.specs.declared.call.Call.{Call}
+use Rattle.runs.specs.declared.call.Call.TheVariants as call
+use Rattle.runs.specs.Runs.{undrawn, answer_to, after, state_after, all_accepted, state_by}
+use Rattle.runs.specs.Theorems.{somebody_rings, Follows, CallsPromised}
+use Rattle.runs.proofs.Blown.{undrawn_same}
+use Rattle.runs.proofs.Replies.{done_ok}
 use Rattle.scripts.specs.declared.entry.Entry.{Entry}
 use Rattle.scripts.specs.Scripts.{Contents, Proper}
 use Rattle.plays.specs.Plays.{told_before, calls_in, calls_to, falls_of, ring_round}
@@ -59,13 +63,13 @@ module _ {K : Type 0} (leads : K → K → Bool) (image : K → List ℕ) (r : �
   abbrev pub falls_told : State K
   falls_told = state_after leads image (told_before r es) s
 
-  pub round_last : state_after leads image (calls_in r es) s ≡ after leads image (round longest_frame) falls_told
+  pub round_last : state_after leads image (calls_in r es) s ≡ after leads image (call.Round longest_frame) falls_told
   unfolding state_after
-  round_last = after-append leads image (told_before r es) (round longest_frame ∷ []) s
+  round_last = after-append leads image (told_before r es) (call.Round longest_frame ∷ []) s
 
-  pub round_split : all_accepted leads image (calls_in r es) s ≡ (all_accepted leads image (told_before r es) s && (is_ok (playing leads image longest_frame falls_told) && true))
+  pub round_split : all_accepted leads image (calls_in r es) s ≡ (all_accepted leads image (told_before r es) s && (is_ok (answer_to leads image (call.Round longest_frame) falls_told) && true))
   unfolding state_after all_accepted
-  round_split = accepted-append leads image (told_before r es) (round longest_frame ∷ []) s
+  round_split = accepted-append leads image (told_before r es) (call.Round longest_frame ∷ []) s
 
 -- ---- rounds, by whether a box of the row rings
 
@@ -79,7 +83,7 @@ module _ {K : Type 0} (leads : K → K → Bool) (image : K → List ℕ) (s : S
   over_where_refused good refused = grind (arith, nat_tests)
 
 module _ {K : Type 0} (leads : K → K → Bool) (image : K → List ℕ) (agree : (h : History K) → Agreement h leads) (remains : (h : History K) → Allowed h → SomeRemains h)
-    (only_past : (h : History K) → OnlyPast h leads) (coming : FallToCome) (follow : CallsFollow leads image) (s : Contents) (p : Proper s) (proposals : List K) (past_end : K)
+    (only_past : (h : History K) → OnlyPast h leads) (coming : FallToCome) (follow : CallsPromised leads image) (s : Contents) (p : Proper s) (proposals : List K) (past_end : K)
     (places : ℕ) (m : Meaning) (first : State K) (formed : WellFormed m) (made : making s.n s.t m places proposals ≡ Ok first) where
   abbrev proposed : ℕ → K
   proposed q = get_or proposals q past_end
@@ -100,7 +104,7 @@ module _ {K : Type 0} (leads : K → K → Bool) (image : K → List ℕ) (agree
   quiet_now : (r : ℕ) (f : Falls) → past r f ≡ past r falls → r < ring_round s → somebody_rings (history f r) ≡ false
   quiet_now = silent leads image agree only_past coming s p proposed
 
-  follows_now : (x : State K) (f : Falls) (r : ℕ) → At x f r → Follows leads image m.posted x (history f r)
+  follows_now : (x : State K) (f : Falls) (r : ℕ) → At x f r → Follows leads image m.posted x (undrawn (history f r))
   follows_now x f r = now leads image agree only_past coming s p proposed m.posted x (history f r)
 
   -- ---- a round more
@@ -132,10 +136,13 @@ module _ {K : Type 0} (leads : K → K → Bool) (image : K → List ℕ) (agree
         let quiet = quiet_now r (past (suc r) falls) past_same early in
         grind (arith, nat_tests)
 
+    round_taken : is_ok (answer_to leads image (call.Round longest_frame) told) ≡ true
+    round_taken = done_ok K (playing leads image longest_frame told) ∙ round_ok
+
     pub there_next : At (at (suc r)) (past (suc r) falls) (suc r)
     there_next =
         subst (λ x. At x (past (suc r) falls) (suc r)) (sym (round_on leads image s.entries first r ∙ round_last leads image (suc r) s.entries (at r)))
-        (next leads image agree only_past coming s p proposed m.posted (round longest_frame) told (history (past (suc r) falls) r) round_ok told_all)
+        (next leads image agree only_past coming s p proposed m.posted (call.Round longest_frame) told (history (past (suc r) falls) r) _ refl round_taken told_all)
 
     pub accepted_next : all_accepted leads image (calls_to s.entries r) first ≡ true → all_accepted leads image (calls_to s.entries (suc r)) first ≡ true
     unfolding calls_to
@@ -143,15 +150,15 @@ module _ {K : Type 0} (leads : K → K → Bool) (image : K → List ℕ) (agree
         let a = accepted-append leads image (calls_to s.entries r) (calls_in (suc r) s.entries) first in
         let b = round_split leads image (suc r) s.entries (at r) in
         let f = walked.0 in
-        let k = round_ok in
+        let k = round_taken in
         a ∙ ap (λ x. x && all_accepted leads image (calls_in (suc r) s.entries) (at r)) so_far ∙ b
-        ∙ ap (λ x. x && (is_ok (playing leads image longest_frame told) && true)) f ∙ ap (λ x. x && true) k
+        ∙ ap (λ x. x && (is_ok (answer_to leads image (call.Round longest_frame) told) && true)) f ∙ ap (λ x. x && true) k
 
   -- ---- all rounds
 
   begun : At (at 0) (past 0 falls) 0
   unfolding calls_to state_after
-  begun = subst (λ f. At first f 0) (λ i q. by (falls q) (dated s p proposed q) i) (λ more. follow s.n s.t places m proposals first formed made past_end more)
+  begun = subst (λ f. At first f 0) (λ i q. by (falls q) (dated s p proposed q) i) (λ more. (follow s.n s.t places m proposals first formed made past_end more).follows)
     where
       by : (o : Option Fall) → fell_before o 1 ≡ false → None ≡ so_far 0 o
       by o e = ap (λ b. cond b o None) (sym e)
@@ -188,11 +195,11 @@ module _ {K : Type 0} (leads : K → K → Bool) (image : K → List ℕ) (agree
               over_where_refused leads image (at (ring_round s)) f.good (grind (arith, nat_tests));
           good = f.good;
         },
-        f.is,
+        f.is ∙ undrawn_same leads h f.allowed.size image m.posted,
       )
 
 pub script_plays : {K : Type 0} (leads : K → K → Bool) (image : K → List ℕ) → ((h : History K) → Agreement h leads) → ((h : History K) → Allowed h → SomeRemains h)
-    → ((h : History K) → OnlyPast h leads) → FallToCome → CallsFollow leads image → ScriptPlays leads image
+    → ((h : History K) → OnlyPast h leads) → FallToCome → CallsPromised leads image → ScriptPlays leads image
 script_plays leads image agree remains only_past coming follow s p proposals past_end =
     let proposed = λ (q : ℕ). get_or proposals q past_end in
     let e = ends leads agree remains only_past s p proposed in (

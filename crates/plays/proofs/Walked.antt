@@ -1,5 +1,5 @@
 -- Telling the falls of a round, entry by entry. Assumes nothing.
-use Rattle.std.proofs.Common.{◌≡◌, ℕ, suc, ◌+◌, ◌-◌, ◌<◌, ◌≤◌, Bool, true, false, cond, ◌&&◌, eqb, ltb, ◌⊎◌, List, [], ◌∷◌, is_some, Some, None, Option, sym, refl, ap, ◌∙◌, subst, inl, inr, arith}
+use Rattle.std.proofs.Common.{◌≡◌, ℕ, suc, ◌+◌, ◌-◌, ◌<◌, ◌≤◌, Bool, true, false, cond, ◌&&◌, eqb, ltb, ◌⊎◌, List, [], ◌∷◌, is_some, is_ok, Some, None, Option, sym, refl, ap, ◌∙◌, subst, inl, inr, arith}
 use Rattle.std.proofs.lemmas.Bool.{cases_Bool, cases_lt, eqb-true, both_ways}
 use Rattle.std.proofs.lemmas.Bool.Decides.{nat_tests}
 use Rattle.sets.specs.Tests.{count}
@@ -10,9 +10,12 @@ use Rattle.rule.specs.Histories.{History, as_of}
 use Rattle.rule.specs.Values as rule
 use Rattle.rule.specs.Theorems.{Agreement, OnlyPast, FallToCome}
 use Rattle.rule.proofs.Waste.{waste_up}
-use Rattle.rows.specs.Calls.{State}
-use Rattle.runs.specs.Runs.{Call, fall, noted, is_accepted, after, state_after, history_after, all_accepted}
+use Rattle.rows.specs.Calls.{State, telling}
+use Rattle.runs.specs.declared.call.Call.{Call}
+use Rattle.runs.specs.declared.call.Call.TheVariants as call
+use Rattle.runs.specs.Runs.{undrawn, noted, course_after, answer_to, after, state_after, answers_to, all_accepted}
 use Rattle.runs.specs.Theorems.{somebody_rings, may_fall, Follows}
+use Rattle.runs.proofs.Replies.{done_ok}
 use Rattle.runs.proofs.Same.{closes_same, rings_same}
 use Rattle.scripts.specs.declared.entry.Entry.{Entry}
 use Rattle.scripts.specs.Entries.{is_named, fitting}
@@ -169,17 +172,18 @@ module _ {K : Type 0} (leads : K → K → Bool) (image : K → List ℕ) (agree
   module _ (unopened : ℕ → Option (List ℕ)) where
     -- the ringing with its row is that of a history, now and after any more calls
     abbrev pub Reached : State K → History K → Type 0
-    Reached x h = (more : List Call) → Follows leads image unopened (state_after leads image more x) (history_after leads image more x h)
+    Reached x h = (more : List Call) → Follows leads image unopened (state_after leads image more x) (course_after more (answers_to leads image more x) (undrawn h))
 
-    pub now : (x : State K) (h : History K) → Reached x h → Follows leads image unopened x h
-    unfolding state_after history_after
+    pub now : (x : State K) (h : History K) → Reached x h → Follows leads image unopened x (undrawn h)
+    unfolding state_after course_after
     now x h reached = reached []
 
-    pub next : (c : Call) (x : State K) (h : History K) → is_accepted leads image c x ≡ true → Reached x h → Reached (after leads image c x) (noted c h)
-    unfolding state_after history_after
-    next c x h ok reached more =
-        subst (λ b. Follows leads image unopened (state_after leads image more (after leads image c x)) (history_after leads image more (after leads image c x) (cond b (noted c h) h))) ok
-        (reached (c ∷ more))
+    pub next : (c : Call) (x : State K) (h then : History K) → noted c (undrawn h) ≡ undrawn then → is_ok (answer_to leads image c x) ≡ true → Reached x h → Reached (after leads image c x) then
+    unfolding state_after answers_to course_after
+    next c x h then is ok reached more =
+        subst (λ y. Follows leads image unopened (state_after leads image more (after leads image c x)) (course_after more (answers_to leads image more (after leads image c x)) y)) is
+        (subst (λ b. Follows leads image unopened (state_after leads image more (after leads image c x)) (course_after more (answers_to leads image more (after leads image c x)) (cond b (noted c (undrawn h)) (undrawn h)))) ok
+        (reached (c ∷ more)))
 
     -- after the falls of a round were told
     abbrev Walked : ℕ → List Entry → State K → Falls → Type 0
@@ -193,19 +197,19 @@ module _ {K : Type 0} (leads : K → K → Bool) (image : K → List ℕ) (agree
     walk r early (e ∷ es) x g is k reached =
         let f = fit_of s.n s.t e es is in
         by f (walk r early es x g f.others (later s.n s.t r falls g e es f k) reached)
-        (λ same there. walk r early es (after leads image (fall e.number e.lost) x) (with_fall (suc r) e.number.0 e.lost g) f.others (told_now s.n s.t r falls g e es f k same coming) there)
+        (λ same there. walk r early es (after leads image (call.Fall e.number e.lost) x) (with_fall (suc r) e.number.0 e.lost g) f.others (told_now s.n s.t r falls g e es f k same coming) there)
         (eqb e.round.0 (suc r)) refl
       where
         by : Fits s.n s.t e es → Walked r es x g
-            → (e.round.0 ≡ suc r → Reached (after leads image (fall e.number e.lost) x) (history (with_fall (suc r) e.number.0 e.lost g) r)
-            → Walked r es (after leads image (fall e.number e.lost) x) (with_fall (suc r) e.number.0 e.lost g))
+            → (e.round.0 ≡ suc r → Reached (after leads image (call.Fall e.number e.lost) x) (history (with_fall (suc r) e.number.0 e.lost g) r)
+            → Walked r es (after leads image (call.Fall e.number e.lost) x) (with_fall (suc r) e.number.0 e.lost g))
             → (b : Bool) → eqb e.round.0 (suc r) ≡ b
-            → (all_accepted leads image (cond b (fall e.number e.lost ∷ told_before (suc r) es) (told_before (suc r) es)) x ≡ true)
-            × Reached (state_after leads image (cond b (fall e.number e.lost ∷ told_before (suc r) es) (told_before (suc r) es)) x)
+            → (all_accepted leads image (cond b (call.Fall e.number e.lost ∷ told_before (suc r) es) (told_before (suc r) es)) x ≡ true)
+            × Reached (state_after leads image (cond b (call.Fall e.number e.lost ∷ told_before (suc r) es) (told_before (suc r) es)) x)
             (history (with_told (suc r) es (cond b (with_fall (suc r) e.number.0 e.lost g) g)) r)
         by f skip tell true is =
             let same = eqb-true e.round.0 (suc r) is in
-            let ok : is_accepted leads image (fall e.number e.lost) x ≡ true = (now x (history g r) reached).falls e.number e.lost ∙ may r early g e es f k same in
-            let rest = tell same (next (fall e.number e.lost) x (history g r) ok reached) in
+            let ok : is_ok (answer_to leads image (call.Fall e.number e.lost) x) ≡ true = done_ok K (telling e.number e.lost x) ∙ (now x (history g r) reached).falls e.number e.lost ∙ may r early g e es f k same in
+            let rest = tell same (next (call.Fall e.number e.lost) x (history g r) _ refl ok reached) in
             (grind (arith, ok, rest.0), rest.1)
         by f skip tell false is = skip

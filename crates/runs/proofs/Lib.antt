@@ -6,7 +6,8 @@ mod Played
 mod Made
 mod Accepting
 mod Following
-mod Blown
+pub mod Blown
 mod Told
 mod Promised
 mod Once
+pub mod Replies
