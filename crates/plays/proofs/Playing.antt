@@ -11,8 +11,8 @@ use Rattle.rule.specs.Histories.{History, Allowed}
 use Rattle.rule.specs.Values as rule
 use Rattle.rule.specs.Theorems.{Agreement, SomeRemains, OnlyPast, FallToCome}
 use Rattle.rows.specs.Calls.{State, making, bad_row, over, playing}
-use Rattle.runs.specs.declared.call.Call.{Call}
-use Rattle.runs.specs.declared.call.Call.TheVariants as call
+use Rattle.runs.specs.declared.request.Request.{Request}
+use Rattle.runs.specs.declared.request.Request.TheVariants as request
 use Rattle.runs.specs.Runs.{undrawn, answer_to, after, state_after, all_accepted, state_by}
 use Rattle.runs.specs.Theorems.{somebody_rings, Follows, CallsPromised}
 use Rattle.runs.proofs.Blown.{undrawn_same}
@@ -28,12 +28,12 @@ use Rattle.plays.proofs.Walked.{told_past, with_told, ready, silent, Reached, no
 -- ---- one list of calls after another
 
 module _ {K : Type 0} (leads : K → K → Bool) (image : K → List ℕ) where
-  pub after-append : (xs ys : List Call) (s : State K) → state_after leads image (xs ++ ys) s ≡ state_after leads image ys (state_after leads image xs s)
+  pub after-append : (xs ys : List Request) (s : State K) → state_after leads image (xs ++ ys) s ≡ state_after leads image ys (state_after leads image xs s)
   unfolding state_after
   after-append [] ys s = refl
   after-append (c ∷ xs) ys s = after-append xs ys (after leads image c s)
 
-  pub accepted-append : (xs ys : List Call) (s : State K) → all_accepted leads image (xs ++ ys) s ≡ (all_accepted leads image xs s && all_accepted leads image ys (state_after leads image xs s))
+  pub accepted-append : (xs ys : List Request) (s : State K) → all_accepted leads image (xs ++ ys) s ≡ (all_accepted leads image xs s && all_accepted leads image ys (state_after leads image xs s))
   unfolding state_after all_accepted
   accepted-append [] ys s = refl
   accepted-append (c ∷ xs) ys s = let ih = accepted-append xs ys (after leads image c s) in grind arith
@@ -63,13 +63,13 @@ module _ {K : Type 0} (leads : K → K → Bool) (image : K → List ℕ) (r : �
   abbrev pub falls_told : State K
   falls_told = state_after leads image (told_before r es) s
 
-  pub round_last : state_after leads image (calls_in r es) s ≡ after leads image (call.Round longest_frame) falls_told
+  pub round_last : state_after leads image (calls_in r es) s ≡ after leads image (request.Round longest_frame) falls_told
   unfolding state_after
-  round_last = after-append leads image (told_before r es) (call.Round longest_frame ∷ []) s
+  round_last = after-append leads image (told_before r es) (request.Round longest_frame ∷ []) s
 
-  pub round_split : all_accepted leads image (calls_in r es) s ≡ (all_accepted leads image (told_before r es) s && (is_ok (answer_to leads image (call.Round longest_frame) falls_told) && true))
+  pub round_split : all_accepted leads image (calls_in r es) s ≡ (all_accepted leads image (told_before r es) s && (is_ok (answer_to leads image (request.Round longest_frame) falls_told) && true))
   unfolding state_after all_accepted
-  round_split = accepted-append leads image (told_before r es) (call.Round longest_frame ∷ []) s
+  round_split = accepted-append leads image (told_before r es) (request.Round longest_frame ∷ []) s
 
 -- ---- rounds, by whether a box of the row rings
 
@@ -136,13 +136,13 @@ module _ {K : Type 0} (leads : K → K → Bool) (image : K → List ℕ) (agree
         let quiet = quiet_now r (past (suc r) falls) past_same early in
         grind (arith, nat_tests)
 
-    round_taken : is_ok (answer_to leads image (call.Round longest_frame) told) ≡ true
+    round_taken : is_ok (answer_to leads image (request.Round longest_frame) told) ≡ true
     round_taken = done_ok K (playing leads image longest_frame told) ∙ round_ok
 
     pub there_next : At (at (suc r)) (past (suc r) falls) (suc r)
     there_next =
         subst (λ x. At x (past (suc r) falls) (suc r)) (sym (round_on leads image s.entries first r ∙ round_last leads image (suc r) s.entries (at r)))
-        (next leads image agree only_past coming s p proposed m.posted (call.Round longest_frame) told (history (past (suc r) falls) r) _ refl round_taken told_all)
+        (next leads image agree only_past coming s p proposed m.posted (request.Round longest_frame) told (history (past (suc r) falls) r) _ refl round_taken told_all)
 
     pub accepted_next : all_accepted leads image (calls_to s.entries r) first ≡ true → all_accepted leads image (calls_to s.entries (suc r)) first ≡ true
     unfolding calls_to
@@ -152,7 +152,7 @@ module _ {K : Type 0} (leads : K → K → Bool) (image : K → List ℕ) (agree
         let f = walked.0 in
         let k = round_taken in
         a ∙ ap (λ x. x && all_accepted leads image (calls_in (suc r) s.entries) (at r)) so_far ∙ b
-        ∙ ap (λ x. x && (is_ok (answer_to leads image (call.Round longest_frame) told) && true)) f ∙ ap (λ x. x && true) k
+        ∙ ap (λ x. x && (is_ok (answer_to leads image (request.Round longest_frame) told) && true)) f ∙ ap (λ x. x && true) k
 
   -- ---- all rounds
 

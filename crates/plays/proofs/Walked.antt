@@ -11,9 +11,9 @@ use Rattle.rule.specs.Values as rule
 use Rattle.rule.specs.Theorems.{Agreement, OnlyPast, FallToCome}
 use Rattle.rule.proofs.Waste.{waste_up}
 use Rattle.rows.specs.Calls.{State, telling}
-use Rattle.runs.specs.declared.call.Call.{Call}
-use Rattle.runs.specs.declared.call.Call.TheVariants as call
-use Rattle.runs.specs.Runs.{undrawn, noted, course_after, answer_to, after, state_after, answers_to, all_accepted}
+use Rattle.runs.specs.declared.request.Request.{Request}
+use Rattle.runs.specs.declared.request.Request.TheVariants as request
+use Rattle.runs.specs.Runs.{undrawn, with_call, course_after, answer_to, after, state_after, answers_to, all_accepted}
 use Rattle.runs.specs.Theorems.{somebody_rings, may_fall, Follows}
 use Rattle.runs.proofs.Replies.{done_ok}
 use Rattle.runs.proofs.Same.{closes_same, rings_same}
@@ -172,17 +172,17 @@ module _ {K : Type 0} (leads : K → K → Bool) (image : K → List ℕ) (agree
   module _ (unopened : ℕ → Option (List ℕ)) where
     -- the ringing with its row is that of a history, now and after any more calls
     abbrev pub Reached : State K → History K → Type 0
-    Reached x h = (more : List Call) → Follows leads image unopened (state_after leads image more x) (course_after more (answers_to leads image more x) (undrawn h))
+    Reached x h = (more : List Request) → Follows leads image unopened (state_after leads image more x) (course_after more (answers_to leads image more x) (undrawn h))
 
     pub now : (x : State K) (h : History K) → Reached x h → Follows leads image unopened x (undrawn h)
     unfolding state_after course_after
     now x h reached = reached []
 
-    pub next : (c : Call) (x : State K) (h then : History K) → noted c (undrawn h) ≡ undrawn then → is_ok (answer_to leads image c x) ≡ true → Reached x h → Reached (after leads image c x) then
+    pub next : (c : Request) (x : State K) (h then : History K) → with_call c (undrawn h) ≡ undrawn then → is_ok (answer_to leads image c x) ≡ true → Reached x h → Reached (after leads image c x) then
     unfolding state_after answers_to course_after
     next c x h then is ok reached more =
         subst (λ y. Follows leads image unopened (state_after leads image more (after leads image c x)) (course_after more (answers_to leads image more (after leads image c x)) y)) is
-        (subst (λ b. Follows leads image unopened (state_after leads image more (after leads image c x)) (course_after more (answers_to leads image more (after leads image c x)) (cond b (noted c (undrawn h)) (undrawn h)))) ok
+        (subst (λ b. Follows leads image unopened (state_after leads image more (after leads image c x)) (course_after more (answers_to leads image more (after leads image c x)) (cond b (with_call c (undrawn h)) (undrawn h)))) ok
         (reached (c ∷ more)))
 
     -- after the falls of a round were told
@@ -197,19 +197,19 @@ module _ {K : Type 0} (leads : K → K → Bool) (image : K → List ℕ) (agree
     walk r early (e ∷ es) x g is k reached =
         let f = fit_of s.n s.t e es is in
         by f (walk r early es x g f.others (later s.n s.t r falls g e es f k) reached)
-        (λ same there. walk r early es (after leads image (call.Fall e.number e.lost) x) (with_fall (suc r) e.number.0 e.lost g) f.others (told_now s.n s.t r falls g e es f k same coming) there)
+        (λ same there. walk r early es (after leads image (request.Fall e.number e.lost) x) (with_fall (suc r) e.number.0 e.lost g) f.others (told_now s.n s.t r falls g e es f k same coming) there)
         (eqb e.round.0 (suc r)) refl
       where
         by : Fits s.n s.t e es → Walked r es x g
-            → (e.round.0 ≡ suc r → Reached (after leads image (call.Fall e.number e.lost) x) (history (with_fall (suc r) e.number.0 e.lost g) r)
-            → Walked r es (after leads image (call.Fall e.number e.lost) x) (with_fall (suc r) e.number.0 e.lost g))
+            → (e.round.0 ≡ suc r → Reached (after leads image (request.Fall e.number e.lost) x) (history (with_fall (suc r) e.number.0 e.lost g) r)
+            → Walked r es (after leads image (request.Fall e.number e.lost) x) (with_fall (suc r) e.number.0 e.lost g))
             → (b : Bool) → eqb e.round.0 (suc r) ≡ b
-            → (all_accepted leads image (cond b (call.Fall e.number e.lost ∷ told_before (suc r) es) (told_before (suc r) es)) x ≡ true)
-            × Reached (state_after leads image (cond b (call.Fall e.number e.lost ∷ told_before (suc r) es) (told_before (suc r) es)) x)
+            → (all_accepted leads image (cond b (request.Fall e.number e.lost ∷ told_before (suc r) es) (told_before (suc r) es)) x ≡ true)
+            × Reached (state_after leads image (cond b (request.Fall e.number e.lost ∷ told_before (suc r) es) (told_before (suc r) es)) x)
             (history (with_told (suc r) es (cond b (with_fall (suc r) e.number.0 e.lost g) g)) r)
         by f skip tell true is =
             let same = eqb-true e.round.0 (suc r) is in
-            let ok : is_ok (answer_to leads image (call.Fall e.number e.lost) x) ≡ true = done_ok K (telling e.number e.lost x) ∙ (now x (history g r) reached).falls e.number e.lost ∙ may r early g e es f k same in
-            let rest = tell same (next (call.Fall e.number e.lost) x (history g r) _ refl ok reached) in
+            let ok : is_ok (answer_to leads image (request.Fall e.number e.lost) x) ≡ true = done_ok K (telling e.number e.lost x) ∙ (now x (history g r) reached).falls e.number e.lost ∙ may r early g e es f k same in
+            let rest = tell same (next (request.Fall e.number e.lost) x (history g r) _ refl ok reached) in
             (grind (arith, ok, rest.0), rest.1)
         by f skip tell false is = skip

@@ -7,8 +7,8 @@ use Rattle.wire.specs.Meaning.{Meaning}
 use Rattle.rule.specs.Falls.{Falls, no_falls, with_fall, past, waste}
 use Rattle.rule.specs.Histories.{History}
 use Rattle.rows.specs.Calls.{State, making}
-use Rattle.runs.specs.declared.call.Call.{Call}
-use Rattle.runs.specs.declared.call.Call.TheVariants as call
+use Rattle.runs.specs.declared.request.Request.{Request}
+use Rattle.runs.specs.declared.request.Request.TheVariants as request
 use Rattle.runs.specs.Runs.{state_by}
 use Rattle.scripts.specs.declared.entry.Entry.{Entry}
 use Rattle.scripts.specs.Scripts.{Contents}
@@ -16,16 +16,16 @@ use Rattle.scripts.specs.Scripts.{Contents}
 -- ---- the calls
 
 -- the falls that are told before round r
-unfoldable pub told_before : ℕ → List Entry → List Call
+unfoldable pub told_before : ℕ → List Entry → List Request
 told_before r [] = []
-told_before r (e ∷ es) = cond (e.round.0 == r) (call.Fall e.number e.lost ∷ told_before r es) (told_before r es)
+told_before r (e ∷ es) = cond (e.round.0 == r) (request.Fall e.number e.lost ∷ told_before r es) (told_before r es)
 
 -- the calls of round r: its falls are told, and it is played
-abbrev pub calls_in : ℕ → List Entry → List Call
-calls_in r es = told_before r es ++ (call.Round longest_frame ∷ [])
+abbrev pub calls_in : ℕ → List Entry → List Request
+calls_in r es = told_before r es ++ (request.Round longest_frame ∷ [])
 
 -- those of the rounds up to r
-unfoldable pub calls_to : List Entry → ℕ → List Call
+unfoldable pub calls_to : List Entry → ℕ → List Request
 calls_to es zero = []
 calls_to es (suc r) = calls_to es r ++ calls_in (suc r) es
 

@@ -1,6 +1,6 @@
 -- Telling a ringing that a box falls, exit by exit. Assumes nothing.
 use Rattle.std.specs.Prelude.{nat_le}
-use Rattle.std.proofs.Common.{◌≡◌, ℕ, ◌<◌, ◌≤◌, true, false, [], ◌∷◌, Ok, Err, Result, refl, arith}
+use Rattle.std.proofs.Common.{◌≡◌, ℕ, ◌<◌, ◌≤◌, true, false, [], ◌∷◌, Ok, Err, OnErr, Result, refl, arith}
 use Rattle.std.specs.Bool.{⊤}
 use Rattle.std.proofs.lemmas.Bool.Decides.{nat_tests}
 use Rattle.numbers.specs.declared.refusal.Refusal.{Refusal}
@@ -81,3 +81,8 @@ module _ {K : Type 0} (q : BoxNumber) (lost : BoxSet) (s : State K) where
 pub falls_size : (q : ℕ) (lost : BoxSet) (m : Meaning) → (wire.or_kept m (falling q lost m)).n ≡ m.n
 unfolding falling
 falls_size q lost m = grind arith
+
+-- what is accepted is not refused
+pub not_refused : {X E : Type 0} (P : Type 0) (r : Result X E) {x : X} → r ≡ Ok x → OnErr r P
+not_refused P (Ok y) e = tt
+not_refused P (Err y) e = absurd (grind arith)

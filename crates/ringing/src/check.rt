@@ -1,4 +1,4 @@
-// What is checked before a fall, a round or an answer.
+// What is checked before a call: the row, before each; and what a fall and a round ask besides.
 ghost use Rattle.std.specs.Prelude.{◌≡◌, not, ◌||◌, ◌&&◌, nat_lt, []};
 ghost use Rattle.sets.specs.Masks.{member, set_of};
 ghost use Rattle.wire.specs.Meaning.{falling, answer};

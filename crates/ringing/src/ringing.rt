@@ -25,16 +25,19 @@ impl<W: Wire> Ringing<W> {
     ghost use Rattle.std.specs.Prelude.{List, length, IfOk, OnErr};
     ghost use Rattle.std.specs.Result.{result_map_both};
     ghost use Rattle.frames.specs.Faults.{map_fault};
-    ghost use Rattle.rows.specs.Calls.{making, telling, asking, answer, or_kept};
-    ghost use Rattle.runs.specs.declared.call.Call.{Call};
-    ghost use Rattle.runs.specs.Runs.{first_history, undrawn};
+    ghost use Rattle.rows.specs.Calls.{making, telling, asking, answer};
+    ghost use Rattle.runs.specs.declared.request.Request.{Request};
+    ghost use Rattle.runs.specs.declared.request.Request.TheVariants as request;
+    ghost use Rattle.runs.specs.Runs.{first_history, undrawn, done, told, Steps};
     ghost use Rattle.runs.specs.Theorems.{Promised};
     ghost use Rattle.ringing.specs.States.{state};
 
     // Makes a ringing of n boxes, of which t may fall, over a wire, and sets up a new box with its proposal in each place of the
     // row. A refused make gives the wire back and leaves the row as it was. After an accepted one and any calls, accepted or refused, each
-    // handed the row as the call before left it, the ringing and its row are those of the history of the calls, all boxes that ring do so in one
-    // round and on one proposal, and each strike order is given back at most once.
+    // handed the row as the call before left it, and by what they and their answers tell: the ringing and its row are those of the rule; the boxes
+    // that ring are just those that closed round t + 1 - D, which ring in it, on the one estimate that each reaches, which a box proposed and no
+    // ringing box one that goes before it; and each strike order is given back at most once. What stands for proposals past the end of the list,
+    // `past_end`, does not count.
     pub fn make<K: Kind>(
         n: u32,
         t: u32,
@@ -44,7 +47,7 @@ impl<W: Wire> Ringing<W> {
     ) -> Result<Ringing<W>, (W, Refusal)>
         ensures ringing { result_map_both (λ r. state (W.meaning r.wire) r.t r.closed row.new) (λ e. e) result ≡ map_fault (λ e. (wire, e)) (making n t (W.meaning wire) (length row.old) proposals.now) }
         ensures refused { OnErr result (row.new ≡ row.old) }
-        ensures promised { let m = W.meaning wire in IfOk (making n t m (length row.old) proposals.now) (λ s. (past_end : K) (calls : List Call) → Promised K.leads K.image m.posted calls s (undrawn (first_history n t proposals.now past_end))) }
+        ensures promised { let m = W.meaning wire in IfOk (making n t m (length row.old) proposals.now) (λ s. (past_end : K) (calls : List Request) → Promised K.leads K.image m.posted calls s (undrawn (first_history n t proposals.now past_end))) }
     {
         let _ = calls_follow::<K>();
         match set_up(n, t, &wire, row, proposals) {
@@ -68,7 +71,8 @@ impl<W: Wire> Ringing<W> {
         lost: BoxSet,
     ) -> Result<(), Refusal>
         ensures answer { let s = state (W.meaning self.old.wire) self.old.t self.old.closed row.now in result ≡ answer (telling q lost s) }
-        ensures state { let s = state (W.meaning self.old.wire) self.old.t self.old.closed row.now in state (W.meaning self.new.wire) self.new.t self.new.closed row.now ≡ or_kept s (telling q lost s) }
+        ensures steps { let s = state (W.meaning self.old.wire) self.old.t self.old.closed row.now in Steps K.leads K.image (request.Fall q lost) s (done result) (state (W.meaning self.new.wire) self.new.t self.new.closed row.now) }
+        ensures refused { OnErr result (self.new ≡ self.old) }
     {
         self.check_telling(row, q, lost)?;
         self.wire.fall(q, lost)
@@ -77,7 +81,8 @@ impl<W: Wire> Ringing<W> {
     // What is told of box p.
     #[tactic(auto, using(crate::proofs::Rows::shown_at), unfolding(rows::specs::Calls::asking))]
     pub fn ask<K: Kind>(&self, row: &[Place<K>], p: BoxNumber) -> Result<Standing<K>, Refusal>
-        ensures { result ≡ asking p (state (W.meaning self.now.wire) self.now.t self.now.closed row.now) }
+        ensures answer { result ≡ asking p (state (W.meaning self.now.wire) self.now.t self.now.closed row.now) }
+        ensures steps { let s = state (W.meaning self.now.wire) self.now.t self.now.closed row.now in Steps K.leads K.image (request.Ask p) s (told result) s }
     {
         self.check_row(row)?;
         match row.get(p.0 as usize) {

@@ -2,7 +2,6 @@
 use Rattle.std.proofs.Common.{◌≡◌, ℕ, Bool, true, false, cond, ◌&&◌, not, eqb, List, [], ◌∷◌, Some, None, Ok, Option, option_map, Result, is_ok, sym, refl, ap, ◌∙◌, arith}
 use Rattle.std.specs.List.{slice_get}
 use Rattle.std.specs.Option.{ok_or}
-use Rattle.std.specs.Result.{result_map_both}
 use Rattle.std.proofs.lemmas.Bool.Decides.{nat_tests}
 use Rattle.numbers.specs.declared.refusal.Refusal.{Refusal}
 use Rattle.numbers.specs.declared.refusal.Refusal.TheVariants as refusal
@@ -16,7 +15,7 @@ use Rattle.rows.specs.declared.place.Blow.TheVariants as blow
 use Rattle.rows.specs.declared.place.Rung.{Rung}
 use Rattle.rows.specs.Numbered.{by_number}
 use Rattle.rows.specs.Places.{Stand, at_rest, down, rung, standing_of, rung_of, come_to, is_undrawn, is_out}
-use Rattle.rows.specs.Calls.{State, misplaced, bad_row, has_rung, over, row_checked, telling, playing, with_blow, with_blows, drawable, drawing, out_in, reporting, asking}
+use Rattle.rows.specs.Calls.{State, misplaced, bad_row, has_rung, over, row_checked, telling, playing, with_blow, with_blows, drawing, out_in, reporting, asking}
 use Rattle.rows.proofs.Numbered.{list_ext, get-by_number, length-by_number, any-by_number, each-by_number, list_none}
 
 module _ {K : Type 0} (blows : ℕ → Blow) (s : State K) where
@@ -101,18 +100,15 @@ pub record Out {K : Type 0} (s : State K) (b : Blow) (p : ℕ) (r : RoundNumber)
   pub is : then ≡ with_blow b p s
 
 module _ {K : Type 0} (s : State K) (p : BoxNumber) where
-  abbrev drawable_of : Option (Stand K) → Result (Rung K) Refusal
-  drawable_of o =
+  abbrev drawing_of : Option (Stand K) → Result (RoundNumber × State K) Refusal
+  drawing_of o =
       and_then (λ e. e) (row_checked s) (λ _.
       and_then (λ e. e) (ok_or o refusal.Stranger) (λ place.
       and_then (λ e. e) (ok_or (rung_of place) refusal.Silent) (λ x.
-      unless ((not (is_undrawn x.blow), refusal.Order) ∷ []) x)))
-
-  abbrev drawing_of : Option (Stand K) → Result (RoundNumber × State K) Refusal
-  drawing_of o = result_map_both (λ x. (x.round, with_blow blow.Out p.0 s)) (λ e. e) (drawable_of o)
+      unless ((not (is_undrawn x.blow), refusal.Order) ∷ []) (x.round, with_blow blow.Out p.0 s))))
 
   pub was_drawn : (r : RoundNumber) (then : State K) → drawing p s ≡ Ok (r, then) → Undrawn s p.0 r then
-  unfolding drawing drawable
+  unfolding drawing
   was_drawn r then e = by (slice_get s.row p.0) refl e
     where
       by : (o : Option (Stand K)) → slice_get s.row p.0 ≡ o → drawing_of o ≡ Ok (r, then) → Undrawn s p.0 r then
@@ -140,7 +136,7 @@ module _ {K : Type 0} (s : State K) (p : BoxNumber) where
 
   module _ (good : bad_row s ≡ false) where
     pub draws_ok : is_ok (drawing p s) ≡ undrawn_at (slice_get s.row p.0)
-    unfolding drawing drawable
+    unfolding drawing
     draws_ok = by (slice_get s.row p.0)
       where
         by : (o : Option (Stand K)) → is_ok (drawing_of o) ≡ undrawn_at o

@@ -6,7 +6,7 @@ use Rattle.sets.specs.Tests.{any}
 use Rattle.sets.specs.Masks.{member}
 use Rattle.sets.proofs.Counts.{any_none, none_any}
 use Rattle.rows.specs.Places.{Stand, at_rest, down, rung}
-use Rattle.rows.specs.Calls.{is_gone, making, misplaced, bad_row, telling, playing, drawable, drawing, reporting, asking}
+use Rattle.rows.specs.Calls.{is_gone, making, misplaced, bad_row, telling, playing, drawing, reporting, asking}
 use Rattle.rows.specs.Theorems.{MakeAccepted, RowFirst, RowMeans}
 use Rattle.rows.proofs.Numbered.{none_numbered}
 
@@ -17,7 +17,7 @@ make_accepted n t m places proposals size len given joins all =
     grind (arith, nat_tests)
 
 pub row_first : {K : Type 0} (leads : K → K → Bool) (image : K → List ℕ) → RowFirst leads image
-unfolding telling playing drawable drawing reporting asking
+unfolding telling playing drawing reporting asking
 row_first leads image s bad = (λ q lost. grind arith, λ room. grind arith, λ p. grind arith, λ p. grind arith, λ b p r. grind arith)
 
 pub row_means : {K : Type 0} → RowMeans K

@@ -150,26 +150,22 @@ module _ {K : Type 0} where
     playing image room s =
         unless ((bad_row s, refusal.Row) ∷ (nat_lt room longest_frame, refusal.Narrow) ∷ (over s, refusal.Over) ∷ []) (played image s)
 
-  -- ---- strike orders. By its plain numbers one is of a box and a round
+  -- ---- strike orders. The plain numbers of one are its box and its round
 
-  -- the blow of box p has come so far; and those of all boxes
+  -- the same, where the blow of box p is b, if it rings; and where the blow of each is so
   abbrev pub with_blow : Blow → ℕ → State K → State K
   with_blow b p s = record s { row = by_number (λ q x. cond (q == p) (come_to b x) x) s.row }
 
   abbrev pub with_blows : (ℕ → Blow) → State K → State K
   with_blows blows s = record s { row = by_number (λ q x. come_to (blows q) x) s.row }
 
-  -- how box p rings, if its order may be drawn
-  unfoldable pub drawable : BoxNumber → State K → Result (Rung K) Refusal
-  drawable p s =
+  -- drawing the order of box p: it is of the round in which p rings, and then out
+  unfoldable pub drawing : BoxNumber → State K → Result (RoundNumber × State K) Refusal
+  drawing p s =
       and_then (λ e. e) (row_checked s) (λ _.
       and_then (λ e. e) (ok_or (slice_get s.row p.0) refusal.Stranger) (λ place.
       and_then (λ e. e) (ok_or (rung_of place) refusal.Silent) (λ x.
-      unless ((not (is_undrawn x.blow), refusal.Order) ∷ []) x)))
-
-  -- drawing it: the order is of the round in which p rings, and then out
-  unfoldable pub drawing : BoxNumber → State K → Result (RoundNumber × State K) Refusal
-  drawing p s = result_map_both (λ x. (x.round, with_blow blow.Out p.0 s)) (λ e. e) (drawable p s)
+      unless ((not (is_undrawn x.blow), refusal.Order) ∷ []) (x.round, with_blow blow.Out p.0 s))))
 
   -- what stands at a place rings in round r, and its order is out
   abbrev pub out_in : RoundNumber → Option (Stand K) → Bool
@@ -178,7 +174,7 @@ module _ {K : Type 0} where
   out_in r (Some (down f)) = false
   out_in r (Some (rung x)) = is_out x.blow && x.round.0 == r.0
 
-  -- the order of box p and round r is given back, as struck or as missed
+  -- the order of box p and round r is given back, and the blow is b: struck or missed
   unfoldable pub reporting : Blow → BoxNumber → RoundNumber → State K → Result (State K) Refusal
   reporting b p r s = unless ((bad_row s, refusal.Row) ∷ (not (out_in r (slice_get s.row p.0)), refusal.Order) ∷ []) (with_blow b p.0 s)
 

@@ -39,7 +39,7 @@ rung_of (at_rest b) = None
 rung_of (down r) = None
 rung_of (rung x) = Some x
 
--- the same with its blow come so far. Of a box that does not ring there is no blow
+-- the same, where its blow is b. A box that does not ring has none
 abbrev pub come_to : {K : Type 0} → Blow → Stand K → Stand K
 come_to b (at_rest h) = at_rest h
 come_to b (down r) = down r

@@ -15,10 +15,10 @@ use Rattle.rule.specs.Theorems.{BoxBegins, BoxFollows, OnlyPast, FallToCome}
 use Rattle.rows.specs.declared.place.Blow.{Blow}
 use Rattle.rows.specs.Calls.{State, making, gone_count, over, telling, playing, played, with_blow, drawing, drawn, reporting, or_kept}
 use Rattle.rows.proofs.Blows.{blow_on, rung_over, was_drawn, was_reported}
-use Rattle.runs.specs.declared.call.Call.{Call}
-use Rattle.runs.specs.declared.call.Call.TheVariants as call
-use Rattle.runs.specs.declared.call.Reply.TheVariants as reply
-use Rattle.runs.specs.Runs.{Answer, Course, first_history, undrawn, done, blown, noted, course_after, answer_to, after, state_after, answers_to, state_by}
+use Rattle.runs.specs.declared.request.Request.{Request}
+use Rattle.runs.specs.declared.request.Request.TheVariants as request
+use Rattle.runs.specs.declared.request.Reply.TheVariants as reply
+use Rattle.runs.specs.Runs.{Answer, Course, first_history, undrawn, done, blown, with_call, course_after, answer_to, after, state_after, answers_to, state_by}
 use Rattle.runs.proofs.Pictured.{n_is}
 use Rattle.runs.proofs.Going.{Going, Kept}
 use Rattle.runs.proofs.Blown.{kept, base_over, none_drawn, going_now}
@@ -89,50 +89,50 @@ module _ {K : Type 0} (leads : K → K → Bool) (image : K → List ℕ) (unope
     reported b p r (Ok then) e = let o = was_reported s p b r then e in blows b p.0 then (rung_over s p.0 o.x o.there) o.is
     reported b p r (Err x) e = k
 
-    pub step : (a : Call) → Kept leads image unopened (after leads image a s) (cond (is_ok (answer_to leads image a s)) (noted a c) c)
-    step (call.Fall q lost) = by (telling q lost s) refl
+    pub step : (a : Request) → Kept leads image unopened (after leads image a s) (cond (is_ok (answer_to leads image a s)) (with_call a c) c)
+    step (request.Fall q lost) = by (telling q lost s) refl
       where
         by : (z : Result (State K) Refusal) → telling q lost s ≡ z
-            → Kept leads image unopened (or_kept s z) (cond (is_ok (done {K = K} z)) (noted (call.Fall q lost) c) c)
+            → Kept leads image unopened (or_kept s z) (cond (is_ok (done {K = K} z)) (with_call (request.Fall q lost) c) c)
         by (Ok then) e =
             let t = told q lost s then e in
             kept leads image unopened then _ (falls s c.history (going_now leads image unopened s c k t.still) q lost then e) c.blows (none_drawn leads image unopened s c k t.still)
         by (Err x) e = k
-    step (call.Round room) = by (playing leads image room s) refl
+    step (request.Round room) = by (playing leads image room s) refl
       where
         by : (z : Result (State K) Refusal) → playing leads image room s ≡ z
-            → Kept leads image unopened (or_kept s z) (cond (is_ok (done {K = K} z)) (noted (call.Round room) c) c)
+            → Kept leads image unopened (or_kept s z) (cond (is_ok (done {K = K} z)) (with_call (request.Round room) c) c)
         by (Ok then) e =
             let t = was_played leads image room s then e in
             kept leads image unopened then _ (plays s c.history (going_now leads image unopened s c k t.still) room then e) c.blows (none_drawn leads image unopened s c k t.still)
         by (Err x) e = k
-    step (call.Ask p) = by (is_ok (answer_to leads image (call.Ask p) s))
+    step (request.Ask p) = by (is_ok (answer_to leads image (request.Ask p) s))
       where
         by : (t : Bool) → Kept leads image unopened s (cond t c c)
         by true = k
         by false = k
-    step (call.Draw p) = by (drawing p s) refl
+    step (request.Draw p) = by (drawing p s) refl
       where
         handed : Result (RoundNumber × State K) Refusal → Answer K
         handed z = result_map_both (λ x. reply.Drawn x.0) (λ e. e) z
 
         by : (z : Result (RoundNumber × State K) Refusal) → drawing p s ≡ z
-            → Kept leads image unopened (or_kept s (drawn z)) (cond (is_ok (handed z)) (noted (call.Draw p) c) c)
+            → Kept leads image unopened (or_kept s (drawn z)) (cond (is_ok (handed z)) (with_call (request.Draw p) c) c)
         by (Ok (r, then)) e = let d = was_drawn s p r then e in blows _ p.0 then (rung_over s p.0 d.x d.there) d.is
         by (Err x) e = k
-    step (call.Struck p r) = reported _ p r (reporting _ p r s) refl
-    step (call.Missed p r) = reported _ p r (reporting _ p r s) refl
+    step (request.Struck p r) = reported _ p r (reporting _ p r s) refl
+    step (request.Missed p r) = reported _ p r (reporting _ p r s) refl
 
-  all : (calls : List Call) (s : State K) (c : Course K) → Kept leads image unopened s c
+  all : (calls : List Request) (s : State K) (c : Course K) → Kept leads image unopened s c
       → Kept leads image unopened (state_after leads image calls s) (course_after calls (answers_to leads image calls s) c)
   unfolding state_after answers_to course_after
   all [] s c k = k
-  all (a ∷ more) s c k = all more (after leads image a s) (cond (is_ok (answer_to leads image a s)) (noted a c) c) (step s c k a)
+  all (a ∷ more) s c k = all more (after leads image a s) (cond (is_ok (answer_to leads image a s)) (with_call a c) c) (step s c k a)
 
 -- so the course holds the state after every list of calls
 pub calls_kept : {K : Type 0} (leads : K → K → Bool) (image : K → List ℕ) → FallToCome → ((h : History K) → OnlyPast h leads) → ((h : History K) → BoxBegins h leads)
     → ((h : History K) → BoxFollows h leads)
-    → (n t places : ℕ) (m : Meaning) (proposals : List K) (s : State K) → WellFormed m → making n t m places proposals ≡ Ok s → (past_end : K) (calls : List Call)
+    → (n t places : ℕ) (m : Meaning) (proposals : List K) (s : State K) → WellFormed m → making n t m places proposals ≡ Ok s → (past_end : K) (calls : List Request)
     → Kept leads image m.posted (state_after leads image calls s) (course_after calls (answers_to leads image calls s) (undrawn (first_history n t proposals past_end)))
 calls_kept leads image coming only_past begins follows n t places m proposals s formed made past_end calls =
     let h = first_history n t proposals past_end in

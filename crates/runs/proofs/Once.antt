@@ -18,11 +18,11 @@ use Rattle.rows.specs.Places.{Stand, at_rest, down, rung, stand_of, come_to, is_
 use Rattle.rows.specs.Calls.{State, making, telling, playing, stand_after, coming, heard_by, with_blow, drawing, drawn, out_in, reporting, or_kept}
 use Rattle.rows.proofs.Numbered.{get-by_number}
 use Rattle.rows.proofs.Blows.{Undrawn, Out, was_drawn, was_reported}
-use Rattle.runs.specs.declared.call.Call.{Call}
-use Rattle.runs.specs.declared.call.Call.TheVariants as call
-use Rattle.runs.specs.declared.call.Reply.TheVariants as reply
+use Rattle.runs.specs.declared.request.Request.{Request}
+use Rattle.runs.specs.declared.request.Request.TheVariants as request
+use Rattle.runs.specs.declared.request.Reply.TheVariants as reply
 use Rattle.runs.specs.Runs.{Answer, done, answer_to, after, answers_to}
-use Rattle.runs.specs.Promise.{is_accepted_as, count_accepted, draws, hands_out, gives_back, OrdersOnce}
+use Rattle.runs.specs.Promise.{is_accepted_as, count_accepted, draws, is_for, hands_out, gives_back, OrdersOnce}
 use Rattle.runs.proofs.Made.{checked}
 use Rattle.runs.proofs.Following.{was_played}
 
@@ -37,21 +37,21 @@ abbrev outs : {K : Type 0} → ℕ → Option (Stand K) → Bool
 outs k o = out_in (record { 0 = k }) o
 
 -- a call moves what stands at place p: what is handed out was not yet, and what is given back was out
-record Moves {K : Type 0} (p : ℕ) (c : Call) (a : Answer K) (o then : Option (Stand K)) : Type 0 where
+record Moves {K : Type 0} (p : ℕ) (c : Request) (a : Answer K) (o then : Option (Stand K)) : Type 0 where
   draw : cond (is_accepted_as (draws p) c a) 1 0 + cond (is_taken then) 0 1 ≤ cond (is_taken o) 0 1
   back : (k : ℕ) → cond (is_accepted_as (gives_back p k) c a) 1 0 + cond (outs k then) 1 0 ≤ cond (is_accepted_as (hands_out p k) c a) 1 0 + cond (outs k o) 1 0
 
 -- nothing moves
-abbrev Idle : {K : Type 0} → ℕ → Call → Answer K → Type 0
+abbrev Idle : {K : Type 0} → ℕ → Request → Answer K → Type 0
 Idle p c a = (is_accepted_as (draws p) c a ≡ false) × ((k : ℕ) → (is_accepted_as (gives_back p k) c a ≡ false) × (is_accepted_as (hands_out p k) c a ≡ false))
 
-stays : {K : Type 0} (p : ℕ) (c : Call) (a : Answer K) (o then : Option (Stand K)) → is_taken then ≡ is_taken o → ((k : ℕ) → outs k then ≡ outs k o) → Idle p c a → Moves p c a o then
+stays : {K : Type 0} (p : ℕ) (c : Request) (a : Answer K) (o then : Option (Stand K)) → is_taken then ≡ is_taken o → ((k : ℕ) → outs k then ≡ outs k o) → Idle p c a → Moves p c a o then
 stays p c a o then t u i = record { draw = grind (arith, i.0, t); back = λ k. let e = i.1 k in let f = u k in grind (arith, e.0, e.1, f) }
 
-unmoved : {K : Type 0} (p : ℕ) (c : Call) (a : Answer K) (o : Option (Stand K)) → Idle p c a → Moves p c a o o
+unmoved : {K : Type 0} (p : ℕ) (c : Request) (a : Answer K) (o : Option (Stand K)) → Idle p c a → Moves p c a o o
 unmoved p c a o = stays p c a o o refl (λ k. refl)
 
-refused : (K : Type 0) (p : ℕ) (c : Call) (e : Refusal) → Idle {K = K} p c (Err e)
+refused : (K : Type 0) (p : ℕ) (c : Request) (e : Refusal) → Idle {K = K} p c (Err e)
 refused K p c e = (refl, λ k. (refl, refl))
 
 -- the same place twice, or another
@@ -109,7 +109,7 @@ module _ {K : Type 0} (leads : K → K → Bool) (image : K → List ℕ) (s : S
 
   -- ---- each call
 
-  give : (b : Blow) (c : Call) (q : BoxNumber) (r : RoundNumber) → is_out b ≡ false → is_undrawn b ≡ false
+  give : (b : Blow) (c : Request) (q : BoxNumber) (r : RoundNumber) → is_out b ≡ false → is_undrawn b ≡ false
       → ((k : ℕ) → is_accepted_as {K = K} (gives_back p k) c (Ok reply.Done) ≡ (eqb q.0 p && eqb r.0 k)) → is_accepted_as {K = K} (draws p) c (Ok reply.Done) ≡ false
       → ((k : ℕ) → is_accepted_as {K = K} (hands_out p k) c (Ok reply.Done) ≡ false)
       → (z : Result (State K) Refusal) → reporting b q r s ≡ z → Moves p c (done z) o (place (or_kept s z))
@@ -141,13 +141,13 @@ module _ {K : Type 0} (leads : K → K → Bool) (image : K → List ℕ) (s : S
           out_taken blow.Missed e = refl
 
   hand : (q : BoxNumber) (z : Result (RoundNumber × State K) Refusal) → drawing q s ≡ z
-      → Moves p (call.Draw q) (result_map_both (λ x. reply.Drawn x.0) (λ e. e) z) o (place (or_kept s (drawn z)))
-  hand q (Err e) is = unmoved p (call.Draw q) (Err e) o (refused K p (call.Draw q) e)
+      → Moves p (request.Draw q) (result_map_both (λ x. reply.Drawn x.0) (λ e. e) z) o (place (or_kept s (drawn z)))
+  hand q (Err e) is = unmoved p (request.Draw q) (Err e) o (refused K p (request.Draw q) e)
   hand q (Ok (r, then)) is = by (was_drawn s q r then is) (cases_Bool (eqb p q.0))
     where
-      by : Undrawn s q.0 r then → (eqb p q.0 ≡ true) ⊎ (eqb p q.0 ≡ false) → Moves p (call.Draw q) (Ok (reply.Drawn r)) o (place then)
+      by : Undrawn s q.0 r then → (eqb p q.0 ≡ true) ⊎ (eqb p q.0 ≡ false) → Moves p (request.Draw q) (Ok (reply.Drawn r)) o (place then)
       by d (inr e) = let f = other_place p q.0 e in
-          stays p (call.Draw q) (Ok (reply.Drawn r)) o (place then) (ap is_taken (ap place d.is ∙ other_blow blow.Out q.0 e)) (λ k. ap (outs k) (ap place d.is ∙ other_blow blow.Out q.0 e))
+          stays p (request.Draw q) (Ok (reply.Drawn r)) o (place then) (ap is_taken (ap place d.is ∙ other_blow blow.Out q.0 e)) (λ k. ap (outs k) (ap place d.is ∙ other_blow blow.Out q.0 e))
           (f, λ k. (refl, ap (λ t. t && eqb r.0 k) f))
       by d (inl e) =
           let w = own_place p q.0 e in
@@ -163,30 +163,30 @@ module _ {K : Type 0} (leads : K → K → Bool) (image : K → List ℕ) (s : S
                 grind (arith, v, f);
           }
 
-  moves : (c : Call) → Moves p c (answer_to leads image c s) o (place (after leads image c s))
-  moves (call.Fall q lost) = by (telling q lost s) (ap (λ r. slice_get r p) (fall_row q lost))
+  moves : (c : Request) → Moves p c (answer_to leads image c s) o (place (after leads image c s))
+  moves (request.Fall q lost) = by (telling q lost s) (ap (λ r. slice_get r p) (fall_row q lost))
     where
-      by : (z : Result (State K) Refusal) → place (or_kept s z) ≡ o → Moves p (call.Fall q lost) (done z) o (place (or_kept s z))
-      by (Ok then) e = stays p (call.Fall q lost) (Ok reply.Done) o (place then) (ap is_taken e) (λ k. ap (outs k) e) (refl, λ k. (refl, refl))
-      by (Err x) e = unmoved p (call.Fall q lost) (Err x) o (refused K p (call.Fall q lost) x)
-  moves (call.Round room) = by (playing leads image room s) refl
+      by : (z : Result (State K) Refusal) → place (or_kept s z) ≡ o → Moves p (request.Fall q lost) (done z) o (place (or_kept s z))
+      by (Ok then) e = stays p (request.Fall q lost) (Ok reply.Done) o (place then) (ap is_taken e) (λ k. ap (outs k) e) (refl, λ k. (refl, refl))
+      by (Err x) e = unmoved p (request.Fall q lost) (Err x) o (refused K p (request.Fall q lost) x)
+  moves (request.Round room) = by (playing leads image room s) refl
     where
-      by : (z : Result (State K) Refusal) → playing leads image room s ≡ z → Moves p (call.Round room) (done z) o (place (or_kept s z))
-      by (Err x) e = unmoved p (call.Round room) (Err x) o (refused K p (call.Round room) x)
+      by : (z : Result (State K) Refusal) → playing leads image room s ≡ z → Moves p (request.Round room) (done z) o (place (or_kept s z))
+      by (Err x) e = unmoved p (request.Round room) (Err x) o (refused K p (request.Round room) x)
       by (Ok then) e =
           let at : place then ≡ option_map (stand_after leads s p) o = ap place (was_played leads image room s then e).is ∙ get-by_number (stand_after leads s) s.row p in
-          stays p (call.Round room) (Ok reply.Done) o (place then) (ap is_taken at ∙ after_taken o) (λ k. ap (outs k) at ∙ after_outs k o) (refl, λ k. (refl, refl))
-  moves (call.Ask q) = unmoved p (call.Ask q) (answer_to leads image (call.Ask q) s) o (by (answer_to leads image (call.Ask q) s))
+          stays p (request.Round room) (Ok reply.Done) o (place then) (ap is_taken at ∙ after_taken o) (λ k. ap (outs k) at ∙ after_outs k o) (refl, λ k. (refl, refl))
+  moves (request.Ask q) = unmoved p (request.Ask q) (answer_to leads image (request.Ask q) s) o (by (answer_to leads image (request.Ask q) s))
     where
-      by : (a : Answer K) → Idle p (call.Ask q) a
+      by : (a : Answer K) → Idle p (request.Ask q) a
       by (Ok r) = (refl, λ k. (refl, refl))
-      by (Err x) = refused K p (call.Ask q) x
-  moves (call.Draw q) = hand q (drawing q s) refl
-  moves (call.Struck q r) = give blow.Struck (call.Struck q r) q r refl refl (λ k. refl) refl (λ k. refl) (reporting blow.Struck q r s) refl
-  moves (call.Missed q r) = give blow.Missed (call.Missed q r) q r refl refl (λ k. refl) refl (λ k. refl) (reporting blow.Missed q r s) refl
+      by (Err x) = refused K p (request.Ask q) x
+  moves (request.Draw q) = hand q (drawing q s) refl
+  moves (request.Struck q r) = give blow.Struck (request.Struck q r) q r refl refl (λ k. refl) refl (λ k. refl) (reporting blow.Struck q r s) refl
+  moves (request.Missed q r) = give blow.Missed (request.Missed q r) q r refl refl (λ k. refl) refl (λ k. refl) (reporting blow.Missed q r s) refl
 
 module _ {K : Type 0} (leads : K → K → Bool) (image : K → List ℕ) (p : ℕ) where
-  once : (calls : List Call) (s : State K)
+  once : (calls : List Request) (s : State K)
       → (count_accepted (draws p) calls (answers_to leads image calls s) ≤ cond (is_taken (slice_get s.row p)) 0 1)
       × ((k : ℕ) → count_accepted (gives_back p k) calls (answers_to leads image calls s)
       ≤ count_accepted (hands_out p k) calls (answers_to leads image calls s) + cond (outs k (slice_get s.row p)) 1 0)
@@ -208,11 +208,35 @@ none_out {K} n t places m proposals s made p k =
     by None = refl
     by (Some v) = refl
 
-pub orders_once : {K : Type 0} (leads : K → K → Bool) (image : K → List ℕ) (n t places : ℕ) (m : Meaning) (proposals : List K) (s : State K)
-    → making n t m places proposals ≡ Ok s → (calls : List Call) → OrdersOnce calls (answers_to leads image calls s)
-orders_once leads image n t places m proposals s made calls p =
-    let o = once leads image p calls s in
-    (by o.0 (is_taken (slice_get s.row p)), λ k. let b = o.1 k in let none = none_out n t places m proposals s made p k in grind (arith, b, none))
+-- at most as many as were handed out are given back, and at most as many as were drawn are handed out
+for_one : {K : Type 0} (p k : ℕ) (c : Request) (a : Answer K) → cond (is_accepted_as (hands_out p k) c a) 1 0 ≤ cond (is_accepted_as (draws p) c a) 1 0
+for_one p k c (Err e) = omega arith
+for_one p k c (Ok r) = by (draws p c r) (is_for k r)
   where
-    by : {m : ℕ} → m ≤ cond (is_taken (slice_get s.row p)) 0 1 → (t : Bool) → m ≤ 1
-    by l t = grind (arith, l)
+    by : (x y : Bool) → cond (x && y) 1 0 ≤ cond x 1 0
+    by true true = omega arith
+    by true false = omega arith
+    by false y = omega arith
+
+of_drawn : {K : Type 0} (p k : ℕ) (calls : List Request) (answers : List (Answer K)) → count_accepted (hands_out p k) calls answers ≤ count_accepted (draws p) calls answers
+unfolding count_accepted
+of_drawn p k [] answers = omega arith
+of_drawn p k (c ∷ calls) [] = omega arith
+of_drawn p k (c ∷ calls) (a ∷ answers) = omega (arith, for_one p k c a, of_drawn p k calls answers)
+
+pub orders_once : {K : Type 0} (leads : K → K → Bool) (image : K → List ℕ) (n t places : ℕ) (m : Meaning) (proposals : List K) (s : State K)
+    → making n t m places proposals ≡ Ok s → (calls : List Request) → OrdersOnce calls (answers_to leads image calls s)
+orders_once leads image n t places m proposals s made calls = record {
+  drawn = drawn_once;
+  returned = λ p k. omega (arith, back p k, of_drawn p k calls (answers_to leads image calls s), drawn_once p);
+  was_drawn = back;
+}
+  where
+    by : (p : ℕ) {m : ℕ} → m ≤ cond (is_taken (slice_get s.row p)) 0 1 → (t : Bool) → m ≤ 1
+    by p l t = grind (arith, l)
+
+    drawn_once : (p : ℕ) → count_accepted (draws p) calls (answers_to leads image calls s) ≤ 1
+    drawn_once p = by p (once leads image p calls s).0 (is_taken (slice_get s.row p))
+
+    back : (p k : ℕ) → count_accepted (gives_back p k) calls (answers_to leads image calls s) ≤ count_accepted (hands_out p k) calls (answers_to leads image calls s)
+    back p k = let b = (once leads image p calls s).1 k in let none = none_out n t places m proposals s made p k in grind (arith, b, none)

@@ -10,7 +10,7 @@ use Rattle.kinds.specs.Orders.{before}
 use Rattle.rule.specs.Falls.{closes}
 use Rattle.rule.specs.Histories.{History, ringing_round}
 use Rattle.rule.specs.Values as rule
-use Rattle.rule.specs.Theorems.{RingsIn, Agreement}
+use Rattle.rule.specs.Theorems.{RingsIn, BoxBegins, BoxFollows, Agreement}
 use Rattle.rule.proofs.Waste.{waste_few}
 use Rattle.rows.specs.declared.place.Blow.{Blow}
 use Rattle.rows.specs.declared.place.Rung.{Rung}
@@ -31,7 +31,7 @@ told_place (Some (down r)) x e = absurd (grind arith)
 told_place (Some (rung y)) x e = cc
 
 module _ {K : Type 0} (leads : K → K → Bool) (image : K → List ℕ) (unopened : ℕ → Option (List ℕ)) (h : History K) (g : Going leads image unopened (state_by leads h image unopened) h)
-    (blows : ℕ → Blow) (agree : Agreement h leads) where
+    (blows : ℕ → Blow) (agree : Agreement h leads) (begins : BoxBegins h leads) (follows : BoxFollows h leads) where
   abbrev s : State K
   s = with_blows blows (state_by leads h image unopened)
 
@@ -121,8 +121,12 @@ module _ {K : Type 0} (leads : K → K → Bool) (image : K → List ℕ) (unope
     foremost = λ p q x y a b. let e = told p x a in let f = told q y b in ap (before leads (h.proposals q.0)) e.proposal ∙ (agree g.allowed).5 p.0 q.0 e.in_last f.in_last;
     exactly = exact;
     at = λ p x a. let e = told p x a in e.round ∙ round_is p.0 e.in_last;
+    begins = begins;
+    closes = follows;
   }
 
 pub rings_once : {K : Type 0} (leads : K → K → Bool) (image : K → List ℕ) (unopened : ℕ → Option (List ℕ)) (s : State K) (c : Course K) → ((h : History K) → Agreement h leads)
-    → Kept leads image unopened s c → OneRing leads s c.history
-rings_once leads image unopened s c agree k = subst (λ x. OneRing leads x c.history) (sym k.is) (one_ring leads image unopened c.history k.going c.blows (agree c.history))
+    → ((h : History K) → BoxBegins h leads) → ((h : History K) → BoxFollows h leads) → Kept leads image unopened s c → OneRing leads s c.history
+rings_once leads image unopened s c agree begins follows k =
+    subst (λ x. OneRing leads x c.history) (sym k.is)
+    (one_ring leads image unopened c.history k.going c.blows (agree c.history) (begins c.history) (follows c.history))

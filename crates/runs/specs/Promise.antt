@@ -6,19 +6,20 @@ use Rattle.kinds.specs.Orders.{before}
 use Rattle.rule.specs.Falls.{closes}
 use Rattle.rule.specs.Histories.{History, ringing_round}
 use Rattle.rule.specs.Values.{estimate}
+use Rattle.rule.specs.Theorems.{BoxBegins, BoxFollows}
 use Rattle.rows.specs.declared.place.Rung.{Rung}
 use Rattle.rows.specs.declared.place.Standing.{Standing}
 use Rattle.rows.specs.declared.place.Standing.TheVariants as standing
 use Rattle.rows.specs.Calls.{State, asking}
-use Rattle.runs.specs.declared.call.Call.{Call}
-use Rattle.runs.specs.declared.call.Call.TheVariants as call
-use Rattle.runs.specs.declared.call.Reply.{Reply}
-use Rattle.runs.specs.declared.call.Reply.TheVariants as reply
+use Rattle.runs.specs.declared.request.Request.{Request}
+use Rattle.runs.specs.declared.request.Request.TheVariants as request
+use Rattle.runs.specs.declared.request.Reply.{Reply}
+use Rattle.runs.specs.declared.request.Reply.TheVariants as reply
 use Rattle.runs.specs.Runs.{Answer}
 
 -- ---- all ring at once
 
--- it is told of box p that it rings: so in round, proposal and blow. The blow may be any: rings, out, struck and missed all count as ringing
+-- it is told of box p that it rings, with this round, proposal and blow. The blow may be any: rings, out, struck and missed all count as ringing
 abbrev pub ToldRinging : {K : Type 0} → State K → BoxNumber → Rung K → Type 0
 ToldRinging s p x = asking p s ≡ Ok (standing.Rung x)
 
@@ -45,49 +46,54 @@ pub record OneRing {K : Type 0} (leads : K → K → Bool) (s : State K) (h : Hi
   -- a box rings exactly when it closed round t + 1 - D, and that is the one round
   pub exactly : (p : BoxNumber) → tells_ringing (asking p s) ≡ has_closed h p.0 (ringing_round h)
   pub at : (p : BoxNumber) (x : Rung K) → ToldRinging s p x → x.round.0 ≡ ringing_round h
+  -- and estimates are what the boxes' own closing gives: a new box begins with the rule's values, and from those that it holds and the frames of
+  -- the boxes that it hears each box closes a round to the next
+  pub begins : BoxBegins h leads
+  pub closes : BoxFollows h leads
 
 -- ---- each strike order is given back at most once
 
 -- the call is accepted, and passes a test, which is of a call and its reply; how many of a list do
-abbrev pub is_accepted_as : {K : Type 0} → (Call → Reply K → Bool) → Call → Answer K → Bool
+abbrev pub is_accepted_as : {K : Type 0} → (Request → Reply K → Bool) → Request → Answer K → Bool
 is_accepted_as test c (Ok r) = test c r
 is_accepted_as test c (Err e) = false
 
-unfoldable pub count_accepted : {K : Type 0} → (Call → Reply K → Bool) → List Call → List (Answer K) → ℕ
+unfoldable pub count_accepted : {K : Type 0} → (Request → Reply K → Bool) → List Request → List (Answer K) → ℕ
 count_accepted test [] answers = 0
 count_accepted test (c ∷ calls) [] = 0
 count_accepted test (c ∷ calls) (a ∷ answers) = cond (is_accepted_as test c a) 1 0 + count_accepted test calls answers
 
 module _ {K : Type 0} where
   -- the call draws an order of box p
-  abbrev pub draws : ℕ → Call → Reply K → Bool
-  draws p (call.Draw q) r = q.0 == p
-  draws p (call.Fall q lost) r = false
-  draws p (call.Round room) r = false
-  draws p (call.Ask q) r = false
-  draws p (call.Struck q k) r = false
-  draws p (call.Missed q k) r = false
+  abbrev pub draws : ℕ → Request → Reply K → Bool
+  draws p (request.Draw q) r = q.0 == p
+  draws p (request.Fall q lost) r = false
+  draws p (request.Round room) r = false
+  draws p (request.Ask q) r = false
+  draws p (request.Struck q k) r = false
+  draws p (request.Missed q k) r = false
 
   -- and it is of round k
-  abbrev pub drawn_for : ℕ → Reply K → Bool
-  drawn_for k reply.Done = false
-  drawn_for k (reply.Told x) = false
-  drawn_for k (reply.Drawn r) = r.0 == k
+  abbrev pub is_for : ℕ → Reply K → Bool
+  is_for k reply.Done = false
+  is_for k (reply.Told x) = false
+  is_for k (reply.Drawn r) = r.0 == k
 
-  abbrev pub hands_out : ℕ → ℕ → Call → Reply K → Bool
-  hands_out p k c r = draws p c r && drawn_for k r
+  abbrev pub hands_out : ℕ → ℕ → Request → Reply K → Bool
+  hands_out p k c r = draws p c r && is_for k r
 
   -- the call gives back the order of box p and round k, as struck or as missed
-  abbrev pub gives_back : ℕ → ℕ → Call → Reply K → Bool
-  gives_back p k (call.Struck q r) _ = q.0 == p && r.0 == k
-  gives_back p k (call.Missed q r) _ = q.0 == p && r.0 == k
-  gives_back p k (call.Fall q lost) _ = false
-  gives_back p k (call.Round room) _ = false
-  gives_back p k (call.Ask q) _ = false
-  gives_back p k (call.Draw q) _ = false
+  abbrev pub gives_back : ℕ → ℕ → Request → Reply K → Bool
+  gives_back p k (request.Struck q r) _ = q.0 == p && r.0 == k
+  gives_back p k (request.Missed q r) _ = q.0 == p && r.0 == k
+  gives_back p k (request.Fall q lost) _ = false
+  gives_back p k (request.Round room) _ = false
+  gives_back p k (request.Ask q) _ = false
+  gives_back p k (request.Draw q) _ = false
 
-  -- of each box an order is handed out at most once, and each order is given back at most as often as it was handed out
-  abbrev pub OrdersOnce : List Call → List (Answer K) → Type 0
-  OrdersOnce calls answers = (p : ℕ)
-      → (count_accepted (draws p) calls answers ≤ 1)
-      × ((k : ℕ) → count_accepted (gives_back p k) calls answers ≤ count_accepted (hands_out p k) calls answers)
+  -- of each box an order is handed out at most once; and each order is given back at most once, and not unless it was handed out. That it was so
+  -- before says the same of the calls up to then
+  pub record OrdersOnce (calls : List Request) (answers : List (Answer K)) : Type 0 where
+    pub drawn : (p : ℕ) → count_accepted (draws p) calls answers ≤ 1
+    pub returned : (p k : ℕ) → count_accepted (gives_back p k) calls answers ≤ 1
+    pub was_drawn : (p k : ℕ) → count_accepted (gives_back p k) calls answers ≤ count_accepted (hands_out p k) calls answers

@@ -1,5 +1,4 @@
--- After any list of calls on a ringing that was made, the rule's values stand in its row, and all that ring do so at once. Assumes nothing.
--- After any list of calls on a ringing that was made, the rule's values stand in its row. Assumes nothing.
+-- After any list of calls on a ringing that was made, the rule's values stand in its row, and what is promised holds. Assumes nothing.
 use Rattle.std.specs.Prelude.{◌≡◌, ℕ, false, not, ◌&&◌, ◌==◌, Bool, List, [], ◌∷◌, is_some, Some, Ok, is_ok, Option, nat_le, nat_lt}
 use Rattle.std.specs.List.{slice_get}
 use Rattle.numbers.specs.declared.refusal.Refusal.TheVariants.{Stranger}
@@ -19,7 +18,7 @@ use Rattle.rows.specs.declared.place.Blow.{Blow}
 use Rattle.rows.specs.declared.place.Rung.{Rung}
 use Rattle.rows.specs.Places.{rung, standing_of, come_to, is_undrawn, is_out}
 use Rattle.rows.specs.Calls.{State, making, bad_row, telling, playing, drawing, reporting, asking, with_blows}
-use Rattle.runs.specs.declared.call.Call.{Call}
+use Rattle.runs.specs.declared.request.Request.{Request}
 use Rattle.runs.specs.Runs.{Course, first_history, undrawn, course_after, state_after, answers_to, stand_by, state_by}
 use Rattle.runs.specs.Promise.{OneRing, OrdersOnce}
 
@@ -38,11 +37,11 @@ may_fall h q lost =
 abbrev pub rings_now : {K : Type 0} → History K → ℕ → Bool
 rings_now h p = nat_lt p h.n && closes h.falls p h.closed && rings h p h.closed
 
--- a ringing with its row is that of a history, which keeps the limits and in which nobody rang before the last closed round, with blows come so far.
--- By these alone: the row is not refused; a round is accepted exactly if there is room for the longest frame and nobody rings; a fall exactly if
--- the box may fall; drawing exactly if the box rings and its order was not drawn; giving back exactly if the order of this box and round is out;
--- a box that rings does so in the last closed round on its estimate, with its blow; and what is told of each box is what the rule gives it, where
--- other numbers are strangers
+-- a ringing with its row is that of a course: the history keeps the limits, nobody rang in it before the last closed round, and the state is that of
+-- the history with these blows. By history and blows alone: the row is not refused; a round is accepted exactly if there is room for the longest
+-- frame and nobody rings; a fall exactly if the box may fall; drawing exactly if the box rings and its order was not drawn; giving back exactly if
+-- the order of this box and round is out; a box that rings does so in the last closed round on its estimate, with its blow; and what is told of each
+-- box is what the rule gives it, where other numbers are strangers
 pub record Follows {K : Type 0} (leads : K → K → Bool) (image : K → List ℕ) (unopened : ℕ → Option (List ℕ)) (s : State K) (c : Course K) : Type 0 where
   pub allowed : Allowed c.history
   pub quiet : QuietBefore c.history c.history.closed
@@ -56,8 +55,9 @@ pub record Follows {K : Type 0} (leads : K → K → Bool) (image : K → List �
   pub told : (p : BoxNumber) → asking p s ≡ unless ((nat_le c.history.n p.0, Stranger) ∷ []) (standing_of (come_to (c.blows p.0) (stand_by leads c.history p.0)))
 
 -- what is promised of calls from a state on, accepted or refused, where this course led up to it. By the course that they and their answers give: the
--- ringing with its row is that of the course; all boxes that ring do so at once; and each strike order is given back at most once
-pub record Promised {K : Type 0} (leads : K → K → Bool) (image : K → List ℕ) (unopened : ℕ → Option (List ℕ)) (calls : List Call) (s : State K) (first : Course K) : Type 0 where
+-- ringing with its row is that of the course; all boxes that ring do so in round t + 1 - D, just those that closed it, and on one proposal; and each
+-- strike order is given back at most once
+pub record Promised {K : Type 0} (leads : K → K → Bool) (image : K → List ℕ) (unopened : ℕ → Option (List ℕ)) (calls : List Request) (s : State K) (first : Course K) : Type 0 where
   pub follows : Follows leads image unopened (state_after leads image calls s) (course_after calls (answers_to leads image calls s) first)
   pub one_ring : OneRing leads (state_after leads image calls s) (course_after calls (answers_to leads image calls s) first).history
   pub orders : OrdersOnce calls (answers_to leads image calls s)
@@ -65,4 +65,4 @@ pub record Promised {K : Type 0} (leads : K → K → Bool) (image : K → List 
 -- it is so of every list of calls, from the making on
 abbrev pub CallsPromised : {K : Type 0} → (K → K → Bool) → (K → List ℕ) → Type 0
 CallsPromised {K} leads image = (n t places : ℕ) (m : Meaning) (proposals : List K) (s : State K) → WellFormed m → making n t m places proposals ≡ Ok s
-    → (past_end : K) (calls : List Call) → Promised leads image m.posted calls s (undrawn (first_history n t proposals past_end))
+    → (past_end : K) (calls : List Request) → Promised leads image m.posted calls s (undrawn (first_history n t proposals past_end))

@@ -1,8 +1,8 @@
 // Lists of calls on a ringing, accepted or refused, and the history that they give.
 #![tactic(auto)]
 
-mod call;
+mod request;
 mod theorems;
 
-pub use call::{Call, Reply};
+pub use request::{Reply, Request};
 pub use theorems::calls_follow;

@@ -1,15 +1,12 @@
-use Rattle.std.proofs.Common.{refl, sym, ◌∙◌}
+use Rattle.std.proofs.Common.{refl, sym, ap, ◌∙◌}
+use Rattle.rows.specs.Calls.{drawn, or_kept}
 use Rattle.ringing.specs.States.{state}
-use Rattle.ringing.proofs.Strikes.{drawn_place, drawn_state}
+use Rattle.ringing.proofs.Strikes.{drawn_state, drawn_told}
 use Rattle.ringing.proofs.ringing.Ringing.draw.Goals as goal
 
-pub set_blow-requires : goal.set_blow-requires
-set_blow-requires g c =
-    let r = c.args.self.now in
-    drawn_place (g.W.Wire.meaning r.wire) r.t r.closed c.args.row.now c.args.p c.in_ok-rung.rung c.in_ok-rung.ensures
-
-pub returns-clause-state : goal.returns-clause-state
-returns-clause-state g c =
+pub returns-clause-steps : goal.returns-clause-steps
+returns-clause-steps g c =
     let r = c.args.self.now in
     let s = state (g.W.Wire.meaning r.wire) r.t r.closed c.args.row.now in
-    (λ j. record s { row = c.set_blow.ensures s refl j }) ∙ sym (drawn_state s c.args.p c.in_ok-rung.rung c.in_ok-rung.ensures)
+    let is = drawn_state s c.args.p c.in_ok-round.round c.in_ok-round.ensures in
+    (ap drawn_told (sym is), (λ j. record s { row = c.set_blow.ensures s refl j }) ∙ sym (ap (λ x. or_kept s (drawn x)) is))

@@ -2,9 +2,11 @@ use Rattle.std.proofs.Common.{ap, sym, ◌∙◌, ◌≡◌, arith}
 use Rattle.sets.specs.Companies.{company}
 use Rattle.wire.specs.Meaning as wire
 use Rattle.wire.specs.Meaning.{Meaning, falling}
-use Rattle.rows.specs.Calls.{answer, or_kept}
+use Rattle.rows.specs.Calls.{telling, answer, or_kept}
+use Rattle.runs.specs.Runs.{done}
+use Rattle.runs.proofs.Replies.{done_answer}
 use Rattle.ringing.specs.States.{state}
-use Rattle.ringing.proofs.Falls.{told_ok, falls_size}
+use Rattle.ringing.proofs.Falls.{told_ok, falls_size, not_refused}
 use Rattle.ringing.proofs.ringing.Ringing.fall.Goals as goal
 
 pub invariant_of-self : goal.invariant_of-self
@@ -21,7 +23,12 @@ returns g c =
     let m = g.W.Wire.meaning r.wire in
     let s = state m r.t r.closed c.args.row.now in
     let t = told_ok c.args.q c.args.lost s c.in_ok-check_telling.ensures in
+    let told : c.fall.result ≡ answer (telling c.args.q c.args.lost s) = c.fall.ensures.answer ∙ ap wire.answer t.1 ∙ sym (ap answer t.2) in
     record {
-      answer = c.fall.ensures.answer ∙ ap wire.answer t.1 ∙ sym (ap answer t.2);
-      state = ap (λ x. record s { wire = x }) (c.fall.ensures.meaning ∙ ap (wire.or_kept m) t.1) ∙ sym (ap (or_kept s) t.2);
+      answer = told;
+      steps = (
+        ap (done {K = g.row.K.Denot}) told ∙ done_answer g.row.K.Denot (telling c.args.q c.args.lost s),
+        ap (λ x. record s { wire = x }) (c.fall.ensures.meaning ∙ ap (wire.or_kept m) t.1) ∙ sym (ap (or_kept s) t.2),
+      );
+      refused = not_refused _ c.fall.result (told ∙ ap answer t.2);
     }

@@ -2,9 +2,9 @@
 use rows::Standing;
 use sets::{BoxNumber, BoxSet, RoundNumber};
 
-// A call, with any arguments. A strike order is told by its plain numbers, which are its box and its round.
+// A call as a value, with any arguments. A strike order is told by its plain numbers, which are its box and its round.
 #[derive(Clone, Copy, Debug, PartialEq, Eq)]
-pub enum Call {
+pub enum Request {
     // The box falls, unheard by the boxes of the set.
     Fall(BoxNumber, BoxSet),
     // A round, with so many line bytes.

@@ -1,0 +1,44 @@
+-- The strike orders in hand. Assumes nothing.
+use Rattle.std.specs.Prelude.{ℕ, Bool, true, false, cond, not, ◌&&◌, List, length, get_or, set, Some, None, Option, option_map, ◌==◌}
+use Rattle.sets.specs.declared.labels.BoxNumber.{BoxNumber}
+use Rattle.sets.specs.declared.labels.RoundNumber.{RoundNumber}
+use Rattle.rows.specs.Numbered.{by_number, any_numbered}
+use Rattle.rows.specs.Places.{Stand, at_rest, down, rung, is_out}
+use Rattle.ringing.specs.declared.strike.StrikeOrder.{StrikeOrder}
+
+-- the round of the order of a box that stands so, if it is out
+abbrev pub round_out : {K : Type 0} → Stand K → Option RoundNumber
+round_out (at_rest b) = None
+round_out (down r) = None
+round_out (rung x) = cond (is_out x.blow) (Some x.round) None
+
+-- the order of the box at place p, if it is out; and those of a row
+abbrev pub order_out : {K : Type 0} → ℕ → Stand K → Option StrikeOrder
+order_out p x = option_map (λ r. record { number = record { 0 = p }; round = r }) (round_out x)
+
+unfoldable pub orders_out : {K : Type 0} → List (Stand K) → List (Option StrikeOrder)
+orders_out row = by_number order_out row
+
+-- it is the order of box p and round r
+abbrev pub is_order : ℕ → RoundNumber → Option StrikeOrder → Bool
+is_order p r None = false
+is_order p r (Some o) = o.number.0 == p && o.round.0 == r.0
+
+-- the same among some, if it lies in the slot of box p; and they without it
+abbrev pub slot_at : List (Option StrikeOrder) → BoxNumber → Option StrikeOrder
+slot_at orders p = get_or orders p.0 None
+
+abbrev pub order_in_hand : BoxNumber → RoundNumber → List (Option StrikeOrder) → Option StrikeOrder
+order_in_hand p r orders = cond (is_order p.0 r (slot_at orders p)) (slot_at orders p) None
+
+abbrev pub without : BoxNumber → RoundNumber → List (Option StrikeOrder) → List (Option StrikeOrder)
+without p r orders = set orders p.0 (cond (is_order p.0 r (slot_at orders p)) None (slot_at orders p))
+
+-- whether the orders in hand are those that are out
+abbrev pub same_order : Option StrikeOrder → Option StrikeOrder → Bool
+same_order None None = true
+same_order None (Some o) = false
+same_order (Some o) x = is_order o.number.0 o.round x
+
+unfoldable pub are_out : {K : Type 0} → List (Stand K) → List (Option StrikeOrder) → Bool
+are_out row orders = length row == length orders && not (any_numbered (λ p x. not (same_order (order_out p x) (get_or orders p None))) row)
