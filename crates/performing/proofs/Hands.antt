@@ -1,15 +1,27 @@
 -- The orders in hand beside a row. Assumes nothing.
-use Rattle.std.proofs.Common.{◌≡◌, ℕ, ◌<◌, Bool, true, false, cond, not, ◌&&◌, eqb, ltb, ◌⊎◌, List, [], ◌∷◌, length, map, set, get_or, Some, None, Option, option_map, sym, refl, ap, ◌∙◌, subst, inl, inr, arith}
+use Rattle.std.proofs.Common.{◌≡◌, ℕ, zero, suc, ◌<◌, Bool, true, false, cond, not, ◌&&◌, eqb, ◌⊎◌, List, [], ◌∷◌, length, map, set, get_or, Some, None, Ok, Err, Option, option_map, Result, sym, refl, ap, ◌∙◌, subst, inl, inr, ◌≤◌, arith}
 use Rattle.std.specs.List.{slice_get}
-use Rattle.std.proofs.lemmas.Bool.{cases_Bool, eqb-true}
+use Rattle.std.proofs.lemmas.Bool.{cases_Bool, cases_lt, eqb-true}
 use Rattle.std.proofs.lemmas.Bool.Decides.{nat_tests}
-use Rattle.std.proofs.lemmas.List.{length-map}
-use Rattle.std.proofs.lemmas.Option.{slice_get-map}
+use Rattle.std.proofs.lemmas.List.{length-map, length-set, get_or_past, get_or-set_same, set-get_or}
+use Rattle.std.proofs.lemmas.Option.{slice_get-map, slice_get_within, slice_get_past}
+use Rattle.numbers.specs.declared.refusal.Refusal.{Refusal}
+use Rattle.numbers.specs.declared.refusal.Refusal.TheVariants as refusal
+use Rattle.sets.specs.declared.labels.BoxNumber.{BoxNumber}
+use Rattle.sets.specs.declared.labels.RoundNumber.{RoundNumber}
+use Rattle.rows.specs.declared.place.Blow.{Blow}
+use Rattle.rows.specs.declared.place.Blow.TheVariants as blow
 use Rattle.rows.specs.declared.place.Place.{Place}
-use Rattle.rows.specs.Places.{Stand, shown}
-use Rattle.rows.proofs.Numbered.{numbered_some, numbered_none}
+use Rattle.rows.specs.declared.place.Rung.{Rung}
+use Rattle.rows.specs.Places.{Stand, at_rest, down, rung, shown, come_to, is_undrawn, is_out}
+use Rattle.rows.specs.Calls.{State, bad_row, with_blow, drawing, drawn, out_in, reporting, or_kept}
+use Rattle.rows.specs.Numbered.{any_numbered}
+use Rattle.rows.proofs.Numbered.{list_ext, get_some, none_numbered, get-set, get-by_number, length-by_number, numbered_some, numbered_none}
+use Rattle.rows.proofs.Blows.{was_drawn, was_reported}
+use Rattle.runs.specs.Runs.{done}
 use Rattle.ringing.specs.declared.strike.StrikeOrder.{StrikeOrder}
-use Rattle.performing.specs.Hands.{order_out, same_order, are_out}
+use Rattle.ringing.specs.Orders.{handed_out, taken_back, back_reply}
+use Rattle.performing.specs.Hands.{order_out, orders_out, is_order, slot_at, order_in_hand, without, same_order, are_out, report_blow, put_back, IsFree}
 
 module _ {K : Type 0} (row : List (Place K)) (orders : List (Option StrikeOrder)) where
   pub short_not : eqb (length row) (length orders) ≡ false → false ≡ are_out (map shown row) orders
@@ -35,3 +47,251 @@ module _ {K : Type 0} (row : List (Place K)) (orders : List (Option StrikeOrder)
           → not (same_order (order_out p x) (get_or orders p None)) ≡ false
       by p x None f e = absurd (grind arith)
       by p x (Some y) f e = let same : shown y ≡ x = cc in ap (λ z. not (same_order (order_out p z) (get_or orders p None))) (sym same) ∙ ap not (f y refl)
+
+set-set : {X : Type 0} (xs : List X) (i : ℕ) (x y : X) → set (set xs i x) i y ≡ set xs i y
+set-set [] i x y = refl
+set-set (z ∷ zs) zero x y = refl
+set-set (z ∷ zs) (suc i) x y = ap (λ l. z ∷ l) (set-set zs i x y)
+
+-- ---- the orders of a row, slot by slot
+
+-- the order that is out at a place, if there is one
+abbrev pub out_here : {K : Type 0} → ℕ → Option (Stand K) → Option StrikeOrder
+out_here p None = None
+out_here p (Some x) = order_out p x
+
+module _ {K : Type 0} (row : List (Stand K)) where
+  pub orders_length : length (orders_out row) ≡ length row
+  unfolding orders_out
+  orders_length = length-by_number order_out row
+
+  pub orders_get : (p : ℕ) → slice_get (orders_out row) p ≡ option_map (order_out p) (slice_get row p)
+  unfolding orders_out
+  orders_get p = get-by_number order_out row p
+
+  -- a slot
+  pub slot_is : (p : ℕ) → get_or (orders_out row) p None ≡ out_here p (slice_get row p)
+  slot_is p = get-slice (orders_out row) p ∙ ap held (orders_get p) ∙ by (slice_get row p)
+    where
+      held : Option (Option StrikeOrder) → Option StrikeOrder
+      held None = None
+      held (Some o) = o
+
+      get-slice : (xs : List (Option StrikeOrder)) (p : ℕ) → get_or xs p None ≡ held (slice_get xs p)
+      get-slice [] p = refl
+      get-slice (x ∷ xs) zero = refl
+      get-slice (x ∷ xs) (suc p) = get-slice xs p
+
+      by : (o : Option (Stand K)) → held (option_map (order_out p) o) ≡ out_here p o
+      by None = refl
+      by (Some x) = refl
+
+-- a slot that is written, as the blow of its box becomes b
+module _ {K : Type 0} (s : State K) (p : ℕ) (b : Blow) (x : Rung K) (there : slice_get s.row p ≡ Some (rung x)) where
+  abbrev f : ℕ → Stand K → Stand K
+  f q y = cond (eqb q p) (come_to b y) y
+
+  pub slot_set : set (orders_out s.row) p (order_out p (rung (record x { blow = b }))) ≡ orders_out (with_blow b p s).row
+  slot_set = list_ext _ _ (λ q.
+      get-set (orders_out s.row) p q (order_out p (rung (record x { blow = b }))) (let l = slice_get_within s.row p (rung x) there in omega (arith, l, orders_length s.row))
+      ∙ ap (cond (eqb q p) (Some (order_out p (rung (record x { blow = b }))))) (orders_get s.row q)
+      ∙ by q (cases_Bool (eqb q p))
+      ∙ sym (orders_get (with_blow b p s).row q ∙ ap (option_map (order_out q)) (get-by_number f s.row q)))
+    where
+      same : (q : ℕ) (o : Option (Stand K)) → option_map (order_out q) o ≡ option_map (order_out q) (option_map (λ y. y) o)
+      same q None = refl
+      same q (Some y) = refl
+
+      by : (q : ℕ) → (eqb q p ≡ true) ⊎ (eqb q p ≡ false)
+          → cond (eqb q p) (Some (order_out p (rung (record x { blow = b })))) (option_map (order_out q) (slice_get s.row q)) ≡ option_map (order_out q) (option_map (f q) (slice_get s.row q))
+      by q (inl e) =
+          let own = eqb-true q p e in
+          let at : slice_get s.row q ≡ Some (rung x) = ap (slice_get s.row) own ∙ there in
+          ap (λ t. cond t (Some (order_out p (rung (record x { blow = b })))) (option_map (order_out q) (slice_get s.row q))) e
+          ∙ ap (λ k. Some (order_out k (rung (record x { blow = b })))) (sym own)
+          ∙ sym ((λ j. option_map (order_out q) (option_map (λ y. cond (e j) (come_to b y) y) (at j))))
+      by q (inr e) =
+          ap (λ t. cond t (Some (order_out p (rung (record x { blow = b })))) (option_map (order_out q) (slice_get s.row q))) e ∙ same q (slice_get s.row q)
+          ∙ ap (λ t. option_map (order_out q) (option_map (λ y. cond t (come_to b y) y) (slice_get s.row q))) (sym e)
+
+-- ---- an order that was drawn
+
+undrawn_in : (b : Blow) → is_undrawn b ≡ true → is_out b ≡ false
+undrawn_in blow.Rings e = refl
+undrawn_in blow.Out e = absurd (grind arith)
+undrawn_in blow.Struck e = absurd (grind arith)
+undrawn_in blow.Missed e = absurd (grind arith)
+
+pub record Handed {K : Type 0} (s : State K) (p : BoxNumber) (o : StrikeOrder) : Type 0 where
+  pub placed : p.0 < length s.row
+  pub free : get_or (orders_out s.row) p.0 None ≡ None
+  pub put : set (orders_out s.row) p.0 (Some o) ≡ orders_out (or_kept s (drawn (drawing p s))).row
+
+pub was_handed : {K : Type 0} (s : State K) (p : BoxNumber) (o : StrikeOrder) → Ok o ≡ handed_out p (drawing p s) → Handed s p o
+was_handed {K} s p o e = by (drawing p s) refl e
+  where
+    by : (z : Result (RoundNumber × State K) Refusal) → drawing p s ≡ z → Ok o ≡ handed_out p z → Handed s p o
+    by (Err x) is e = absurd (grind arith)
+    by (Ok (r, then)) is e =
+        let d = was_drawn s p r then is in
+        let own : o ≡ record { number = p; round = r } = cc in
+        record {
+          placed = slice_get_within s.row p.0 (rung d.x) d.there;
+          free = slot_is s.row p.0 ∙ ap (out_here p.0) d.there ∙ ap (λ t. option_map (λ k. record { number = record { 0 = p.0 }; round = k }) (cond t (Some d.x.round) None)) (undrawn_in d.x.blow d.new);
+          put =
+              (λ j. set (orders_out s.row) p.0 (Some ((own ∙ (λ i. record { number = p; round = d.round i })) j)))
+              ∙ slot_set s p.0 blow.Out d.x d.there ∙ ap (λ y. orders_out y.row) (sym d.is ∙ sym (ap (λ z. or_kept s (drawn z)) is));
+        }
+
+-- ---- an order that is given back
+
+module _ {K : Type 0} (s : State K) (p : BoxNumber) (r : RoundNumber) where
+  -- one is in hand just if it is out
+  in_hand_is : is_order p.0 r (slot_at (orders_out s.row) p) ≡ out_in r (slice_get s.row p.0)
+  in_hand_is = ap (is_order p.0 r) (slot_is s.row p.0) ∙ by (slice_get s.row p.0)
+    where
+      by : (o : Option (Stand K)) → is_order p.0 r (out_here p.0 o) ≡ out_in r o
+      by None = refl
+      by (Some (at_rest b)) = refl
+      by (Some (down f)) = refl
+      by (Some (rung x)) = at (is_out x.blow)
+        where
+          at : (t : Bool) → is_order p.0 r (option_map (λ k. record { number = record { 0 = p.0 }; round = k }) (cond t (Some x.round) None)) ≡ (t && eqb x.round.0 r.0)
+          at true = let own : eqb p.0 p.0 ≡ true = grind (arith, nat_tests) in ap (λ t. t && eqb x.round.0 r.0) own
+          at false = refl
+
+  -- so what is taken is the order itself
+  pub record Taken (o : StrikeOrder) : Type 0 where
+    pub number : o.number ≡ p
+    pub round : o.round ≡ r
+    pub out : out_in r (slice_get s.row p.0) ≡ true
+    pub slot : slot_at (orders_out s.row) p ≡ Some o
+    pub rest : without p r (orders_out s.row) ≡ set (orders_out s.row) p.0 None
+
+  pub was_taken : (o : StrikeOrder) → Some o ≡ order_in_hand p r (orders_out s.row) → Taken o
+  was_taken o e = by (slot_at (orders_out s.row) p) refl (cases_Bool (is_order p.0 r (slot_at (orders_out s.row) p)))
+    where
+      by : (x : Option StrikeOrder) → slot_at (orders_out s.row) p ≡ x → (is_order p.0 r (slot_at (orders_out s.row) p) ≡ true) ⊎ (is_order p.0 r (slot_at (orders_out s.row) p) ≡ false) → Taken o
+      by x at (inr off) = absurd (let f : Some o ≡ None = e ∙ ap (λ t. cond t (slot_at (orders_out s.row) p) None) off in grind arith)
+      by None at (inl is) = absurd (let f : is_order p.0 r None ≡ true = ap (is_order p.0 r) (sym at) ∙ is in grind arith)
+      by (Some x) at (inl is) =
+          let f : Some o ≡ Some x = e ∙ ap (λ t. cond t (slot_at (orders_out s.row) p) None) is ∙ at in
+          let same : x ≡ o = cc in
+          let k : (eqb o.number.0 p.0 && eqb o.round.0 r.0) ≡ true = ap (is_order p.0 r) (sym (at ∙ ap Some same)) ∙ is in
+          let n : eqb o.number.0 p.0 ≡ true = grind arith in
+          let m : eqb o.round.0 r.0 ≡ true = grind arith in
+          record {
+            number = λ j. record { 0 = eqb-true o.number.0 p.0 n j };
+            round = λ j. record { 0 = eqb-true o.round.0 r.0 m j };
+            out = sym in_hand_is ∙ is;
+            slot = at ∙ ap Some same;
+            rest = ap (λ t. set (orders_out s.row) p.0 (cond t None (slot_at (orders_out s.row) p))) is;
+          }
+
+  -- or nothing is, and the orders stay
+  pub not_taken : None ≡ order_in_hand p r (orders_out s.row) → (out_in r (slice_get s.row p.0) ≡ false) × (without p r (orders_out s.row) ≡ orders_out s.row)
+  not_taken e = by (slot_at (orders_out s.row) p) refl (cases_Bool (is_order p.0 r (slot_at (orders_out s.row) p)))
+    where
+      by : (x : Option StrikeOrder) → slot_at (orders_out s.row) p ≡ x → (is_order p.0 r (slot_at (orders_out s.row) p) ≡ true) ⊎ (is_order p.0 r (slot_at (orders_out s.row) p) ≡ false)
+          → (out_in r (slice_get s.row p.0) ≡ false) × (without p r (orders_out s.row) ≡ orders_out s.row)
+      by x at (inr off) = (sym in_hand_is ∙ off, ap (λ t. set (orders_out s.row) p.0 (cond t None (slot_at (orders_out s.row) p))) off ∙ set-get_or (orders_out s.row) p.0 None)
+      by None at (inl is) = absurd (let f : is_order p.0 r None ≡ true = ap (is_order p.0 r) (sym at) ∙ is in grind arith)
+      by (Some x) at (inl is) = absurd (let f : None ≡ Some x = e ∙ ap (λ t. cond t (slot_at (orders_out s.row) p) None) is ∙ at in grind arith)
+
+  -- where it is not out, giving it back is refused, for the row first
+  pub not_out : out_in r (slice_get s.row p.0) ≡ false → (b : Blow) → reporting b p r s ≡ Err (cond (bad_row s) refusal.Row refusal.Order)
+  unfolding reporting
+  not_out off b = grind (arith, off)
+
+  module _ (o : StrikeOrder) (t : Taken o) where
+    -- the blow is reported, and its slot is free
+    place_in : p.0 < length (orders_out s.row)
+    place_in = by (cases_lt p.0 (length (orders_out s.row)))
+      where
+        by : (p.0 < length (orders_out s.row)) ⊎ (length (orders_out s.row) ≤ p.0) → p.0 < length (orders_out s.row)
+        by (inl l) = l
+        by (inr m) = absurd (let f : None ≡ Some o = sym (get_or_past (orders_out s.row) p.0 None m) ∙ t.slot in grind arith)
+
+    pub freed : (p.0 < length (set (orders_out s.row) p.0 None)) × (get_or (set (orders_out s.row) p.0 None) p.0 None ≡ None)
+    freed = (omega (arith, place_in, length-set (orders_out s.row) p.0 None), get_or-set_same (orders_out s.row) p.0 None None place_in)
+
+    -- or is put back
+    pub again : set (set (orders_out s.row) p.0 None) p.0 (Some o) ≡ orders_out s.row
+    again = set-set (orders_out s.row) p.0 None (Some o) ∙ ap (set (orders_out s.row) p.0) (sym t.slot) ∙ set-get_or (orders_out s.row) p.0 None
+
+    pub after_report : (b : Blow) → is_out b ≡ false → set (orders_out s.row) p.0 None ≡ orders_out (with_blow b p.0 s).row
+    after_report b new = by (slice_get s.row p.0) refl t.out
+      where
+        by : (x : Option (Stand K)) → slice_get s.row p.0 ≡ x → out_in r x ≡ true → set (orders_out s.row) p.0 None ≡ orders_out (with_blow b p.0 s).row
+        by None at e = absurd (grind arith)
+        by (Some (at_rest h)) at e = absurd (grind arith)
+        by (Some (down f)) at e = absurd (grind arith)
+        by (Some (rung x)) at e =
+            ap (set (orders_out s.row) p.0) (sym (ap (λ t. option_map (λ k. record { number = record { 0 = p.0 }; round = k }) (cond t (Some x.round) None)) new))
+            ∙ slot_set s p.0 b x at
+
+    -- ---- what comes of the report
+
+    pub free_slot : (b : Blow) → IsFree (taken_back o (reporting b o.number o.round s)) (without p r (orders_out s.row))
+    free_slot b = by (reporting b o.number o.round s)
+      where
+        by : (z : Result (State K) Refusal) → IsFree (taken_back o z) (without p r (orders_out s.row))
+        by (Ok then) = tt
+        by (Err e) = subst (λ l. (o.number.0 < length l) × (get_or l o.number.0 None ≡ None)) (sym t.rest) (subst (λ k. (k < length (set (orders_out s.row) p.0 None)) × (get_or (set (orders_out s.row) p.0 None) k None ≡ None)) (ap (λ q. q.0) (sym t.number)) freed)
+
+    pub same_report : (b : Blow) → reporting b o.number o.round s ≡ reporting b p r s
+    same_report b = λ j. reporting b (t.number j) (t.round j) s
+
+    pub settled : (b : Blow) → is_out b ≡ false → put_back (taken_back o (reporting b o.number o.round s)) (without p r (orders_out s.row)) ≡ orders_out (or_kept s (reporting b o.number o.round s)).row
+    settled b new =
+        (λ j. put_back (taken_back o (same_report b j)) (t.rest j)) ∙ by (reporting b p r s) refl ∙ (λ j. orders_out (or_kept s (sym (same_report b) j)).row)
+      where
+        by : (z : Result (State K) Refusal) → reporting b p r s ≡ z → put_back (taken_back o z) (set (orders_out s.row) p.0 None) ≡ orders_out (or_kept s z).row
+        by (Ok then) e = after_report b new ∙ ap (λ x. orders_out x.row) (sym (was_reported s p b r then e).is)
+        by (Err e) is = ap (λ k. set (set (orders_out s.row) p.0 None) k (Some o)) (ap (λ q. q.0) t.number) ∙ again
+
+-- the reply
+pub reply_same : {K : Type 0} (o : StrikeOrder) (z : Result (State K) Refusal) → back_reply {K = K} (taken_back o z) ≡ done z
+reply_same o (Ok then) = refl
+reply_same o (Err e) = refl
+
+pub told_new : (is_struck : Bool) → is_out (report_blow is_struck) ≡ false
+told_new true = refl
+told_new false = refl
+
+-- ---- the orders that are out
+
+same_is : (o x : Option StrikeOrder) → same_order o x ≡ true → x ≡ o
+same_is None None e = refl
+same_is None (Some y) e = absurd (grind arith)
+same_is (Some o) None e = absurd (grind arith)
+same_is (Some o) (Some y) e =
+    let n : eqb y.number.0 o.number.0 ≡ true = grind arith in
+    let r : eqb y.round.0 o.round.0 ≡ true = grind arith in
+    λ j. Some (record { number = record { 0 = eqb-true y.number.0 o.number.0 n j }; round = record { 0 = eqb-true y.round.0 o.round.0 r j } })
+
+slot_get : (xs : List (Option StrikeOrder)) (p : ℕ) → p < length xs → slice_get xs p ≡ Some (get_or xs p None)
+slot_get [] p l = absurd (omega arith)
+slot_get (x ∷ xs) zero l = refl
+slot_get (x ∷ xs) (suc p) l = slot_get xs p (omega arith)
+
+pub out_all : {K : Type 0} (row : List (Stand K)) (orders : List (Option StrikeOrder)) → are_out row orders ≡ true → orders ≡ orders_out row
+unfolding are_out
+out_all {K} row orders e = list_ext orders (orders_out row) (λ p. at p (slice_get row p) refl ∙ sym (orders_get row p))
+  where
+    len : length row ≡ length orders
+    len = grind (arith, nat_tests)
+
+    none : any_numbered (λ p x. not (same_order (order_out p x) (get_or orders p None))) row ≡ false
+    none = grind arith
+
+    at : (p : ℕ) (o : Option (Stand K)) → slice_get row p ≡ o → slice_get orders p ≡ option_map (order_out p) o
+    at p None is = slice_get_past orders p (by (cases_lt p (length row)))
+      where
+        by : (p < length row) ⊎ (length row ≤ p) → length orders ≤ p
+        by (inr m) = omega (arith, m, len)
+        by (inl l) = absurd (let s = get_some row p l in let f : Some s.0 ≡ None = sym s.1 ∙ is in grind arith)
+    at p (Some x) is =
+        let l = slice_get_within row p x is in
+        let n : not (same_order (order_out p x) (get_or orders p None)) ≡ false = none_numbered (λ p x. not (same_order (order_out p x) (get_or orders p None))) row none p x is in
+        slot_get orders p (omega (arith, l, len)) ∙ ap Some (same_is (order_out p x) (get_or orders p None) (grind arith))

@@ -1,1 +1,2 @@
 mod Hands
+mod Making

@@ -1,7 +1,11 @@
 -- The strike orders in hand. Assumes nothing.
-use Rattle.std.specs.Prelude.{ℕ, Bool, true, false, cond, not, ◌&&◌, List, length, get_or, set, Some, None, Option, option_map, ◌==◌}
+use Rattle.std.specs.Prelude.{◌≡◌, ℕ, ◌<◌, Bool, true, false, cond, not, ◌&&◌, List, length, get_or, set, Some, None, Option, option_map, Ok, Err, Result, IfErr, ◌==◌}
+use Rattle.std.specs.Bool.{⊤}
+use Rattle.numbers.specs.declared.refusal.Refusal.{Refusal}
 use Rattle.sets.specs.declared.labels.BoxNumber.{BoxNumber}
 use Rattle.sets.specs.declared.labels.RoundNumber.{RoundNumber}
+use Rattle.rows.specs.declared.place.Blow.{Blow}
+use Rattle.rows.specs.declared.place.Blow.TheVariants as blow
 use Rattle.rows.specs.Numbered.{by_number, any_numbered}
 use Rattle.rows.specs.Places.{Stand, at_rest, down, rung, is_out}
 use Rattle.ringing.specs.declared.strike.StrikeOrder.{StrikeOrder}
@@ -42,3 +46,19 @@ same_order (Some o) x = is_order o.number.0 o.round x
 
 unfoldable pub are_out : {K : Type 0} → List (Stand K) → List (Option StrikeOrder) → Bool
 are_out row orders = length row == length orders && not (any_numbered (λ p x. not (same_order (order_out p x) (get_or orders p None))) row)
+
+-- ---- giving back
+
+-- the blow that is reported
+abbrev pub report_blow : Bool → Blow
+report_blow true = blow.Struck
+report_blow false = blow.Missed
+
+-- an order that is refused is put back into its slot
+abbrev pub put_back : Result ⊤ (StrikeOrder × Refusal) → List (Option StrikeOrder) → List (Option StrikeOrder)
+put_back (Ok _) orders = orders
+put_back (Err e) orders = set orders e.0.number.0 (Some e.0)
+
+-- where an order is refused, its slot is there and free
+abbrev pub IsFree : Result ⊤ (StrikeOrder × Refusal) → List (Option StrikeOrder) → Type 0
+IsFree r orders = IfErr r (λ e. (e.0.number.0 < length orders) × (get_or orders e.0.number.0 None ≡ None))

@@ -1,5 +1,7 @@
 // A list of calls on a ringing, made one after another.
 #![tactic(auto)]
 
+mod calls;
 mod hand;
-mod perform;
+
+pub use calls::perform;

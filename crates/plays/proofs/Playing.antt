@@ -16,6 +16,7 @@ use Rattle.runs.specs.declared.request.Request.TheVariants as request
 use Rattle.runs.specs.Runs.{undrawn, answer_to, after, state_after, all_accepted, state_by}
 use Rattle.runs.specs.Theorems.{somebody_rings, Follows, CallsPromised}
 use Rattle.runs.proofs.Blown.{undrawn_same}
+use Rattle.runs.proofs.Lists.{after-append}
 use Rattle.runs.proofs.Replies.{done_ok}
 use Rattle.scripts.specs.declared.entry.Entry.{Entry}
 use Rattle.scripts.specs.Scripts.{Contents, Proper}
@@ -28,11 +29,6 @@ use Rattle.plays.proofs.Walked.{told_past, with_told, ready, silent, Reached, no
 -- ---- one list of calls after another
 
 module _ {K : Type 0} (leads : K → K → Bool) (image : K → List ℕ) where
-  pub after-append : (xs ys : List Request) (s : State K) → state_after leads image (xs ++ ys) s ≡ state_after leads image ys (state_after leads image xs s)
-  unfolding state_after
-  after-append [] ys s = refl
-  after-append (c ∷ xs) ys s = after-append xs ys (after leads image c s)
-
   pub accepted-append : (xs ys : List Request) (s : State K) → all_accepted leads image (xs ++ ys) s ≡ (all_accepted leads image xs s && all_accepted leads image ys (state_after leads image xs s))
   unfolding state_after all_accepted
   accepted-append [] ys s = refl

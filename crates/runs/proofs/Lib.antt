@@ -5,9 +5,10 @@ mod Fallen
 mod Played
 mod Made
 mod Accepting
-mod Following
+pub mod Following
 pub mod Blown
 mod Told
 mod Promised
 mod Once
 pub mod Replies
+pub mod Lists

@@ -34,7 +34,7 @@ returns-clause-state g c =
     let k = g.K.Kind in
     let r = c.args.ringing.now in
     let s = state (g.W.Wire.meaning r.wire) r.t r.closed c.args.row.now in
-    c.round.ensures.state ∙ ap (after k.leads k.image (request.Round longest_frame)) c.tell_falls.ensures ∙ sym (round_last k.leads k.image c.args.round.0 c.args.entries.now s)
+    c.round.ensures.steps.1 ∙ ap (after k.leads k.image (request.Round longest_frame)) c.tell_falls.ensures ∙ sym (round_last k.leads k.image c.args.round.0 c.args.entries.now s)
 
 pub returns-clause-over : goal.returns-clause-over
 returns-clause-over g c = c.is_over.ensures ∙ sym (over_is c.round.new.row)

@@ -30,7 +30,7 @@ loop-entry-preserved g c =
       | then-eq w ↦
           let now = sym c.eq.ensures ∙ w.if-eq.true in
           let t = told_accepted c.args.round.0 c.args.entries.now i blank c.loop-entry-test.true now k.leads k.image s c.loop-entry.invariant.accepted in
-          let same = ap (λ x. state (g.W.Wire.meaning x.wire) x.t x.closed c.args.row.now) w.ringing-is ∙ w.fall.ensures.state in
+          let same = ap (λ x. state (g.W.Wire.meaning x.wire) x.t x.closed c.args.row.now) w.ringing-is ∙ w.fall.ensures.steps.1 in
           record {
             ends = ap (state_after k.leads k.image more) same ∙ sym (told_ends c.args.round.0 c.args.entries.now i blank c.loop-entry-test.true now k.leads k.image s) ∙ c.loop-entry.invariant.ends;
             accepted = ap (all_accepted k.leads k.image more) same ∙ t.1;
