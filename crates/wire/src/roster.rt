@@ -26,7 +26,7 @@ pub(crate) struct Roster {
 }
 
 impl Roster {
-    ghost use Rattle.std.specs.Prelude.{List, length, IfOk, OnOk, false, ◌||◌, ◌==◌};
+    ghost use Rattle.std.specs.Prelude.{List, length, IfOk, OnOk, OnErr, false, ◌||◌, ◌==◌};
     ghost use Rattle.std.specs.Result.{result_map_both};
     ghost use Rattle.sets.specs.Masks.{set_of};
     ghost use Rattle.wire.specs.Kept.{is_postable};
@@ -70,6 +70,7 @@ impl Roster {
         ensures answer { (frames : ℕ → List ℕ) → result ≡ answer (falling q.0 lost (shown self.old frames)) }
         ensures posted { self.new.posted ≡ self.old.posted }
         ensures meaning { (frames : ℕ → List ℕ) → shown self.new frames ≡ or_kept (shown self.old frames) (falling q.0 lost (shown self.old frames)) }
+        ensures refused { OnErr result (self.new ≡ self.old) }
     {
         if q.0 >= self.n {
             return Err(Refusal::Stranger);

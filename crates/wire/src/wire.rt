@@ -1,6 +1,6 @@
 // What joins the boxes of a company. Code above sees a wire by its meaning alone: how many boxes it joins, which are up, the lost set of each box that is
 // falling (the boxes that do not hear what it sends), and what each has posted.
-ghost use Rattle.std.specs.Prelude.{◌≡◌, length};
+ghost use Rattle.std.specs.Prelude.{◌≡◌, length, OnErr};
 ghost use Rattle.wire.specs.Kept.{is_postable};
 ghost use Rattle.wire.specs.Meaning.{Meaning, WellFormed, falling_set, posted_set, opened, closed, falling, posting, answer, or_kept, fetching, told, laid};
 
@@ -33,12 +33,14 @@ pub trait Wire {
     // Box q falls. It may still post, but until the round closes the boxes of its lost set do not hear it; then it is down.
     fn fall(&mut self, q: BoxNumber, lost: BoxSet) -> Result<(), Refusal>
         ensures answer { result ≡ answer (falling q.0 lost (meaning self.old)) }
-        ensures meaning { meaning self.new ≡ or_kept (meaning self.old) (falling q.0 lost (meaning self.old)) };
+        ensures meaning { meaning self.new ≡ or_kept (meaning self.old) (falling q.0 lost (meaning self.old)) }
+        ensures refused { OnErr result (self.new ≡ self.old) };
 
     // Box q posts a frame for all to fetch.
     fn post(&mut self, q: BoxNumber, frame: &[u8]) -> Result<(), Refusal>
         ensures answer { result ≡ answer (posting q.0 frame.now (meaning self.old)) }
-        ensures meaning { meaning self.new ≡ or_kept (meaning self.old) (posting q.0 frame.now (meaning self.old)) };
+        ensures meaning { meaning self.new ≡ or_kept (meaning self.old) (posting q.0 frame.now (meaning self.old)) }
+        ensures refused { OnErr result (self.new ≡ self.old) };
 
     // Box p fetches what box q posted: its length, with the frame at the front of `out`, or nothing.
     fn fetch(&self, p: BoxNumber, q: BoxNumber, out: &mut [u8]) -> Result<Option<usize>, Refusal>
