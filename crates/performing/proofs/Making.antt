@@ -102,9 +102,9 @@ goes_on leads image promised calls s end answers rest ends told n t places m pro
     let begun = undrawn (first_history n t proposals past_end) in
     let state_is = after-append leads image before calls first ∙ ap (state_after leads image calls) (sym is) ∙ sym ends in
     let course_is =
-        course-append leads image before calls first begun
-        ∙ ap (λ x. course_after calls (answers_to leads image calls x) (course_after before (answers_to leads image before first) begun)) (sym is)
-        ∙ sym (course-surplus leads image calls s rest (course_after before (answers_to leads image before first) begun))
-        ∙ ap (λ a. course_after calls a (course_after before (answers_to leads image before first) begun)) (sym told) in
+    course-append leads image before calls first begun
+    ∙ ap (λ x. course_after calls (answers_to leads image calls x) (course_after before (answers_to leads image before first) begun)) (sym is)
+    ∙ sym (course-surplus leads image calls s rest (course_after before (answers_to leads image before first) begun))
+    ∙ ap (λ a. course_after calls a (course_after before (answers_to leads image before first) begun)) (sym told) in
     subst (λ x. OneRing leads x (course_after calls answers (course_after before (answers_to leads image before first) begun)).history) state_is
     (subst (λ y. OneRing leads (state_after leads image (before ++ calls) first) y.history) course_is whole)

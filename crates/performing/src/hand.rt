@@ -30,11 +30,7 @@ fn has_order(slot: &Option<StrikeOrder>, p: usize, round: RoundNumber) -> bool
 }
 
 // Takes the order of box p and this round, if the slot has it.
-fn take_from(
-    slot: &mut Option<StrikeOrder>,
-    p: usize,
-    round: RoundNumber,
-) -> Option<StrikeOrder>
+fn take_from(slot: &mut Option<StrikeOrder>, p: usize, round: RoundNumber) -> Option<StrikeOrder>
     ensures result { result ≡ cond (is_order p round slot.old) slot.old None }
     ensures slot { slot.new ≡ cond (is_order p round slot.old) None slot.old }
 {

@@ -63,11 +63,7 @@ impl<W: Wire> Ringing<W> {
 
     // Hands out the strike order of box p, which is then out.
     #[tactic(auto, unfolding(rows::specs::Calls::drawing))]
-    pub fn draw<K: Kind>(
-        &self,
-        row: &mut [Place<K>],
-        p: BoxNumber,
-    ) -> Result<StrikeOrder, Refusal>
+    pub fn draw<K: Kind>(&self, row: &mut [Place<K>], p: BoxNumber) -> Result<StrikeOrder, Refusal>
         ensures order { let s = state (W.meaning self.now.wire) self.now.t self.now.closed row.old in result ≡ handed_out p (drawing p s) }
         ensures steps { let s = state (W.meaning self.now.wire) self.now.t self.now.closed row.old in Steps K.leads K.image (request.Draw p) s (drawn_reply result) (state (W.meaning self.now.wire) self.now.t self.now.closed row.new) }
         ensures refused { OnErr result (row.new ≡ row.old) }
@@ -105,11 +101,7 @@ impl<W: Wire> Ringing<W> {
 
     // The round of the order of box p, or why it is not drawn.
     #[tactic(auto, using(crate::proofs::Rows::shown_at), unfolding(rows::specs::Calls::drawing))]
-    fn check_drawing<K: Kind>(
-        &self,
-        row: &[Place<K>],
-        p: BoxNumber,
-    ) -> Result<RoundNumber, Refusal>
+    fn check_drawing<K: Kind>(&self, row: &[Place<K>], p: BoxNumber) -> Result<RoundNumber, Refusal>
         ensures { let s = state (W.meaning self.now.wire) self.now.t self.now.closed row.now in result ≡ result_map_both (λ x. x.0) (λ e. e) (drawing p s) }
     {
         self.check_row(row)?;

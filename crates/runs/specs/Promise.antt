@@ -34,6 +34,7 @@ tells_ringing (Err e) = false
 abbrev pub has_closed : {K : Type 0} → History K → ℕ → ℕ → Bool
 has_closed h p r = nat_lt p h.n && nat_le 1 r && nat_le r h.closed && closes h.falls p r
 
+-- what is promised of what is told of the boxes, in a state to which calls with this history led
 pub record OneRing {K : Type 0} (leads : K → K → Bool) (s : State K) (h : History K) : Type 0 where
   -- all boxes that ring do so in one round and on one proposal
   pub one_round : (p q : BoxNumber) (x y : Rung K) → ToldRinging s p x → ToldRinging s q y → x.round ≡ y.round
