@@ -22,7 +22,6 @@ use Rattle.wire.specs.Meaning as wire
 use Rattle.wire.specs.Meaning.{Meaning, is_lost, falling}
 use Rattle.rows.specs.declared.place.Blow.{Blow}
 use Rattle.rows.specs.declared.place.Blow.TheVariants as blow
-use Rattle.rows.specs.declared.place.Rung.{Rung}
 use Rattle.rows.specs.declared.place.Standing.{Standing}
 use Rattle.rows.specs.Numbered.{by_number, any_numbered}
 use Rattle.rows.specs.Places.{Stand, at_rest, down, rung, stand_of, standing_of, rung_of, come_to, is_undrawn, is_out}
