@@ -1,4 +1,5 @@
 -- The orders in hand beside a row. Assumes nothing.
+use Rattle.std.specs.Bool.{⊤}
 use Rattle.std.proofs.Common.{◌≡◌, ℕ, zero, suc, ◌<◌, Bool, true, false, cond, not, ◌&&◌, eqb, ◌⊎◌, List, [], ◌∷◌, length, map, set, get_or, Some, None, Ok, Err, Option, option_map, Result, sym, refl, ap, ◌∙◌, subst, inl, inr, ◌≤◌, arith}
 use Rattle.std.specs.List.{slice_get}
 use Rattle.std.proofs.lemmas.Bool.{cases_Bool, cases_lt, eqb-true}
@@ -18,7 +19,7 @@ use Rattle.rows.specs.Calls.{State, bad_row, with_blow, drawing, drawn, out_in, 
 use Rattle.rows.specs.Numbered.{any_numbered}
 use Rattle.rows.proofs.Numbered.{list_ext, get_some, none_numbered, get-set, get-by_number, length-by_number, numbered_some, numbered_none}
 use Rattle.rows.proofs.Blows.{was_drawn, was_reported}
-use Rattle.runs.specs.Runs.{done}
+use Rattle.runs.specs.Runs.{Answer, done}
 use Rattle.ringing.specs.declared.strike.StrikeOrder.{StrikeOrder}
 use Rattle.ringing.specs.Orders.{handed_out, taken_back, back_reply}
 use Rattle.performing.specs.Hands.{order_out, orders_out, is_order, slot_at, order_in_hand, without, same_order, are_out, report_blow, put_back, IsFree}
@@ -168,7 +169,7 @@ module _ {K : Type 0} (s : State K) (p : BoxNumber) (r : RoundNumber) where
     pub slot : slot_at (orders_out s.row) p ≡ Some o
     pub rest : without p r (orders_out s.row) ≡ set (orders_out s.row) p.0 None
 
-  pub was_taken : (o : StrikeOrder) → Some o ≡ order_in_hand p r (orders_out s.row) → Taken o
+  was_taken : (o : StrikeOrder) → Some o ≡ order_in_hand p r (orders_out s.row) → Taken o
   was_taken o e = by (slot_at (orders_out s.row) p) refl (cases_Bool (is_order p.0 r (slot_at (orders_out s.row) p)))
     where
       by : (x : Option StrikeOrder) → slot_at (orders_out s.row) p ≡ x → (is_order p.0 r (slot_at (orders_out s.row) p) ≡ true) ⊎ (is_order p.0 r (slot_at (orders_out s.row) p) ≡ false) → Taken o
@@ -189,7 +190,7 @@ module _ {K : Type 0} (s : State K) (p : BoxNumber) (r : RoundNumber) where
           }
 
   -- or nothing is, and the orders stay
-  pub not_taken : None ≡ order_in_hand p r (orders_out s.row) → (out_in r (slice_get s.row p.0) ≡ false) × (without p r (orders_out s.row) ≡ orders_out s.row)
+  not_taken : None ≡ order_in_hand p r (orders_out s.row) → (out_in r (slice_get s.row p.0) ≡ false) × (without p r (orders_out s.row) ≡ orders_out s.row)
   not_taken e = by (slot_at (orders_out s.row) p) refl (cases_Bool (is_order p.0 r (slot_at (orders_out s.row) p)))
     where
       by : (x : Option StrikeOrder) → slot_at (orders_out s.row) p ≡ x → (is_order p.0 r (slot_at (orders_out s.row) p) ≡ true) ⊎ (is_order p.0 r (slot_at (orders_out s.row) p) ≡ false)
@@ -199,7 +200,7 @@ module _ {K : Type 0} (s : State K) (p : BoxNumber) (r : RoundNumber) where
       by (Some x) at (inl is) = absurd (let f : None ≡ Some x = e ∙ ap (λ t. cond t (slot_at (orders_out s.row) p) None) is ∙ at in grind arith)
 
   -- where it is not out, giving it back is refused, for the row first
-  pub not_out : out_in r (slice_get s.row p.0) ≡ false → (b : Blow) → reporting b p r s ≡ Err (cond (bad_row s) refusal.Row refusal.Order)
+  not_out : out_in r (slice_get s.row p.0) ≡ false → (b : Blow) → reporting b p r s ≡ Err (cond (bad_row s) refusal.Row refusal.Order)
   unfolding reporting
   not_out off b = grind (arith, off)
 
@@ -232,17 +233,17 @@ module _ {K : Type 0} (s : State K) (p : BoxNumber) (r : RoundNumber) where
 
     -- ---- what comes of the report
 
-    pub free_slot : (b : Blow) → IsFree (taken_back o (reporting b o.number o.round s)) (without p r (orders_out s.row))
+    free_slot : (b : Blow) → IsFree (taken_back o (reporting b o.number o.round s)) (without p r (orders_out s.row))
     free_slot b = by (reporting b o.number o.round s)
       where
         by : (z : Result (State K) Refusal) → IsFree (taken_back o z) (without p r (orders_out s.row))
         by (Ok then) = tt
         by (Err e) = subst (λ l. (o.number.0 < length l) × (get_or l o.number.0 None ≡ None)) (sym t.rest) (subst (λ k. (k < length (set (orders_out s.row) p.0 None)) × (get_or (set (orders_out s.row) p.0 None) k None ≡ None)) (ap (λ q. q.0) (sym t.number)) freed)
 
-    pub same_report : (b : Blow) → reporting b o.number o.round s ≡ reporting b p r s
+    same_report : (b : Blow) → reporting b o.number o.round s ≡ reporting b p r s
     same_report b = λ j. reporting b (t.number j) (t.round j) s
 
-    pub settled : (b : Blow) → is_out b ≡ false → put_back (taken_back o (reporting b o.number o.round s)) (without p r (orders_out s.row)) ≡ orders_out (or_kept s (reporting b o.number o.round s)).row
+    settled : (b : Blow) → is_out b ≡ false → put_back (taken_back o (reporting b o.number o.round s)) (without p r (orders_out s.row)) ≡ orders_out (or_kept s (reporting b o.number o.round s)).row
     settled b new =
         (λ j. put_back (taken_back o (same_report b j)) (t.rest j)) ∙ by (reporting b p r s) refl ∙ (λ j. orders_out (or_kept s (sym (same_report b) j)).row)
       where
@@ -251,13 +252,9 @@ module _ {K : Type 0} (s : State K) (p : BoxNumber) (r : RoundNumber) where
         by (Err e) is = ap (λ k. set (set (orders_out s.row) p.0 None) k (Some o)) (ap (λ q. q.0) t.number) ∙ again
 
 -- the reply
-pub reply_same : {K : Type 0} (o : StrikeOrder) (z : Result (State K) Refusal) → back_reply {K = K} (taken_back o z) ≡ done z
+reply_same : {K : Type 0} (o : StrikeOrder) (z : Result (State K) Refusal) → back_reply {K = K} (taken_back o z) ≡ done z
 reply_same o (Ok then) = refl
 reply_same o (Err e) = refl
-
-pub told_new : (is_struck : Bool) → is_out (report_blow is_struck) ≡ false
-told_new true = refl
-told_new false = refl
 
 -- ---- the orders that are out
 
@@ -295,3 +292,44 @@ out_all {K} row orders e = list_ext orders (orders_out row) (λ p. at p (slice_g
         let l = slice_get_within row p x is in
         let n : not (same_order (order_out p x) (get_or orders p None)) ≡ false = none_numbered (λ p x. not (same_order (order_out p x) (get_or orders p None))) row none p x is in
         slot_get orders p (omega (arith, l, len)) ∙ ap Some (same_is (order_out p x) (get_or orders p None) (grind arith))
+
+pub told_new : (is_struck : Bool) → is_out (report_blow is_struck) ≡ false
+told_new true = refl
+told_new false = refl
+
+-- ---- a report, clause by clause
+
+module _ {K : Type 0} (s : State K) (p : BoxNumber) (r : RoundNumber) (b : Blow) (orders : List (Option StrikeOrder)) where
+  -- of an order that was in hand
+  module _ (o : StrikeOrder) (z : Result ⊤ (StrikeOrder × Refusal)) (told : z ≡ taken_back o (reporting b o.number o.round s)) (hand : orders ≡ orders_out s.row)
+      (some : Some o ≡ order_in_hand p r orders) where
+    taken : Taken s p r o
+    taken = was_taken s p r o (some ∙ ap (order_in_hand p r) hand)
+
+    pub is_free : (left : List (Option StrikeOrder)) → left ≡ without p r orders → IsFree z left
+    is_free left rest = subst (λ x. IsFree x left) (sym told) (subst (IsFree _) (sym (rest ∙ ap (without p r) hand)) (free_slot s p r o taken b))
+
+    pub answer_is : (y : Answer K) → y ≡ back_reply z → y ≡ done (reporting b p r s)
+    answer_is y e = e ∙ ap back_reply told ∙ reply_same o _ ∙ ap done (same_report s p r o taken b)
+
+    module _ (then : State K) (end : then ≡ or_kept s (reporting b o.number o.round s)) where
+      pub state_is : then ≡ or_kept s (reporting b p r s)
+      state_is = end ∙ ap (or_kept s) (same_report s p r o taken b)
+
+      pub orders_are : (left put : List (Option StrikeOrder)) → is_out b ≡ false → left ≡ without p r orders → put ≡ put_back z left → put ≡ orders_out then.row
+      orders_are left put new rest e =
+          e ∙ (λ j. put_back (told j) ((rest ∙ ap (without p r) hand) j)) ∙ settled s p r o taken b new ∙ ap (λ x. orders_out x.row) (sym end)
+
+  -- of one that was not
+  module _ (e : Refusal) (why : e ≡ cond (bad_row s) refusal.Row refusal.Order) (hand : orders ≡ orders_out s.row) (none : None ≡ order_in_hand p r orders) where
+    refused_so : reporting b p r s ≡ Err e
+    refused_so = not_out s p r (not_taken s p r (none ∙ ap (order_in_hand p r) hand)).0 b ∙ ap Err (sym why)
+
+    pub refusal_is : Err e ≡ done {K = K} (reporting b p r s)
+    refusal_is = sym (ap done refused_so)
+
+    pub state_stays : s ≡ or_kept s (reporting b p r s)
+    state_stays = sym (ap (or_kept s) refused_so)
+
+    pub orders_stay : (left : List (Option StrikeOrder)) → left ≡ without p r orders → left ≡ orders_out s.row
+    orders_stay left rest = rest ∙ ap (without p r) hand ∙ (not_taken s p r (none ∙ ap (order_in_hand p r) hand)).1
