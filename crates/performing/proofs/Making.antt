@@ -11,9 +11,9 @@ use Rattle.rows.specs.Places.{Stand, at_rest, down, rung, stand_of}
 use Rattle.rows.specs.Calls.{State, coming, heard_by, stand_after, playing, or_kept}
 use Rattle.rows.proofs.Numbered.{list_ext, get-by_number}
 use Rattle.runs.specs.declared.request.Request.{Request}
-use Rattle.runs.specs.Runs.{Answer, first_history, undrawn, course_after, answer_to, after, state_after, answers_to}
+use Rattle.runs.specs.Runs.{Answer, Course, first_history, undrawn, course_after, answer_to, after, state_after, answers_to}
 use Rattle.runs.specs.Promise.{OneRing}
-use Rattle.runs.specs.Theorems.{CallsPromised}
+use Rattle.runs.specs.Theorems.{Follows, Promised, CallsPromised}
 use Rattle.runs.proofs.Lists.{after-append, course-append, course-surplus}
 use Rattle.runs.proofs.Following.{was_played}
 use Rattle.performing.specs.Hands.{order_out, orders_out}
@@ -94,17 +94,30 @@ module _ {K : Type 0} (leads : K → K → Bool) (image : K → List ℕ) (calls
 
 -- ---- what is promised of the calls, of whatever making and calls led up to them
 
-pub goes_on : {K : Type 0} (leads : K → K → Bool) (image : K → List ℕ) → CallsPromised leads image → (calls : List Request) (s end : State K) (answers rest : List (Answer K))
-    → end ≡ state_after leads image calls s → answers ≡ answers_to leads image calls s ++ rest
-    → FromMaking leads image s (λ course. OneRing leads end (course_after calls answers course).history)
-goes_on leads image promised calls s end answers rest ends told n t places m proposals first formed made past_end before is =
-    let whole = (promised n t places m proposals first formed made past_end (before ++ calls)).one_ring in
-    let begun = undrawn (first_history n t proposals past_end) in
-    let state_is = after-append leads image before calls first ∙ ap (state_after leads image calls) (sym is) ∙ sym ends in
-    let course_is =
-    course-append leads image before calls first begun
-    ∙ ap (λ x. course_after calls (answers_to leads image calls x) (course_after before (answers_to leads image before first) begun)) (sym is)
-    ∙ sym (course-surplus leads image calls s rest (course_after before (answers_to leads image before first) begun))
-    ∙ ap (λ a. course_after calls a (course_after before (answers_to leads image before first) begun)) (sym told) in
-    subst (λ x. OneRing leads x (course_after calls answers (course_after before (answers_to leads image before first) begun)).history) state_is
-    (subst (λ y. OneRing leads (state_after leads image (before ++ calls) first) y.history) course_is whole)
+pub goes_on : {K : Type 0} (leads : K → K → Bool) (size : ℕ) (named : List ℕ → Option K) (image : K → List ℕ) → CallsPromised leads size named image
+    → (calls : List Request) (s end : State K) (answers rest : List (Answer K)) → end ≡ state_after leads image calls s → answers ≡ answers_to leads image calls s ++ rest
+    → FromMaking leads image s (λ unopened course. let then = course_after calls answers course in Follows leads image unopened end then × OneRing leads size named image end then.history)
+goes_on {K} leads size named image promised calls s end answers rest ends told n t places m proposals first formed made past_end before is =
+    subst (λ x. Both x then) state_is (subst (λ y. Both (state_after leads image (before ++ calls) first) y) course_is (whole.follows, whole.one_ring))
+  where
+    whole : Promised leads size named image m.posted (before ++ calls) first (undrawn (first_history n t proposals past_end))
+    whole = promised n t places m proposals first formed made past_end (before ++ calls)
+
+    begun : Course K
+    begun = course_after before (answers_to leads image before first) (undrawn (first_history n t proposals past_end))
+
+    then : Course K
+    then = course_after calls answers begun
+
+    Both : State K → Course K → Type 0
+    Both x y = Follows leads image m.posted x y × OneRing leads size named image x y.history
+
+    state_is : state_after leads image (before ++ calls) first ≡ end
+    state_is = after-append leads image before calls first ∙ ap (state_after leads image calls) (sym is) ∙ sym ends
+
+    course_is : course_after (before ++ calls) (answers_to leads image (before ++ calls) first) (undrawn (first_history n t proposals past_end)) ≡ then
+    course_is =
+        course-append leads image before calls first (undrawn (first_history n t proposals past_end))
+        ∙ ap (λ x. course_after calls (answers_to leads image calls x) begun) (sym is)
+        ∙ sym (course-surplus leads image calls s rest begun)
+        ∙ ap (λ a. course_after calls a begun) (sym told)

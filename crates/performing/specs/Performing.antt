@@ -14,8 +14,8 @@ use Rattle.performing.specs.Hands.{are_out}
 abbrev pub performing : {K : Type 0} → (K → K → Bool) → (K → List ℕ) → List Request → List (Option StrikeOrder) → ℕ → State K → Result (State K) Refusal
 performing leads image calls orders room s = unless ((nat_lt room (length calls), refusal.Row) ∷ (not (are_out s.row orders), refusal.Row) ∷ []) (state_after leads image calls s)
 
--- of whatever making and calls led to a state, by the course up to it
-abbrev pub FromMaking : {K : Type 0} → (K → K → Bool) → (K → List ℕ) → State K → (Course K → Type 0) → Type 0
+-- of whatever making and calls led to a state: by what was posted as the ringing was made, and by the course up to it
+abbrev pub FromMaking : {K : Type 0} → (K → K → Bool) → (K → List ℕ) → State K → ((ℕ → Option (List ℕ)) → Course K → Type 0) → Type 0
 FromMaking {K} leads image s Holds = (n t places : ℕ) (m : Meaning) (proposals : List K) (first : State K) → WellFormed m → making n t m places proposals ≡ Ok first
     → (past_end : K) (before : List Request) → s ≡ state_after leads image before first
-    → Holds (course_after before (answers_to leads image before first) (undrawn (first_history n t proposals past_end)))
+    → Holds m.posted (course_after before (answers_to leads image before first) (undrawn (first_history n t proposals past_end)))

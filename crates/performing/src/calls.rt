@@ -6,6 +6,7 @@ ghost use Rattle.runs.specs.declared.request.Request.TheVariants as request;
 ghost use Rattle.rows.specs.Calls.{bad_row, reporting, answer, or_kept};
 ghost use Rattle.runs.specs.Runs.{Steps, done, course_after, state_after, answers_to};
 ghost use Rattle.runs.specs.Promise.{OneRing};
+ghost use Rattle.runs.specs.Theorems.{Follows};
 ghost use Rattle.ringing.specs.Orders.{taken_back, back_reply};
 ghost use Rattle.ringing.specs.States.{state};
 ghost use Rattle.performing.specs.Hands.{orders_out, report_blow, put_back, IsFree};
@@ -174,7 +175,7 @@ pub fn perform<W: Wire, K: Kind>(
     ensures answers { let s = state (W.meaning ringing.old.wire) ringing.old.t ringing.old.closed row.old in OnOk result (answers.new ≡ answers_to K.leads K.image calls.now s ++ drop (length calls.now) answers.old) }
     ensures orders { OnOk result (orders.new ≡ orders_out (map shown row.new)) }
     ensures refused { OnErr result ((ringing.new ≡ ringing.old) × (row.new ≡ row.old) × (orders.new ≡ orders.old) × (answers.new ≡ answers.old)) }
-    ensures promised { let s = state (W.meaning ringing.old.wire) ringing.old.t ringing.old.closed row.old in OnOk result (FromMaking K.leads K.image s (λ course. let then = course_after calls.now answers.new course in OneRing K.leads (state (W.meaning ringing.new.wire) ringing.new.t ringing.new.closed row.new) then.history)) }
+    ensures promised { let s = state (W.meaning ringing.old.wire) ringing.old.t ringing.old.closed row.old in let end = state (W.meaning ringing.new.wire) ringing.new.t ringing.new.closed row.new in OnOk result (FromMaking K.leads K.image s (λ unopened course. let then = course_after calls.now answers.new course in Follows K.leads K.image unopened end then × OneRing K.leads K.SIZE K.named K.image end then.history)) }
 {
     let _ = calls_follow::<K>();
     if answers.len() < calls.len() || !are_out(row, orders) {

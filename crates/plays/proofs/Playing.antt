@@ -13,8 +13,8 @@ use Rattle.rule.specs.Theorems.{Agreement, SomeRemains, OnlyPast, FallToCome}
 use Rattle.rows.specs.Calls.{State, making, bad_row, over, playing}
 use Rattle.runs.specs.declared.request.Request.{Request}
 use Rattle.runs.specs.declared.request.Request.TheVariants as request
-use Rattle.runs.specs.Runs.{undrawn, answer_to, after, state_after, all_accepted, state_by}
-use Rattle.runs.specs.Theorems.{somebody_rings, Follows, CallsPromised}
+use Rattle.runs.specs.Runs.{first_history, undrawn, course_after, answers_to, answer_to, after, state_after, all_accepted, state_by}
+use Rattle.runs.specs.Theorems.{somebody_rings, Follows}
 use Rattle.runs.proofs.Blown.{undrawn_same}
 use Rattle.runs.proofs.Lists.{after-append}
 use Rattle.runs.proofs.Replies.{done_ok}
@@ -67,6 +67,12 @@ module _ {K : Type 0} (leads : K → K → Bool) (image : K → List ℕ) (r : �
   unfolding state_after all_accepted
   round_split = accepted-append leads image (told_before r es) (request.Round longest_frame ∷ []) s
 
+-- ---- what is promised of lists of calls, as far as it is needed here
+
+abbrev pub CallsFollow : {K : Type 0} → (K → K → Bool) → (K → List ℕ) → Type 0
+CallsFollow {K} leads image = (n t places : ℕ) (m : Meaning) (proposals : List K) (s : State K) → WellFormed m → making n t m places proposals ≡ Ok s → (past_end : K) (calls : List Request)
+    → Follows leads image m.posted (state_after leads image calls s) (course_after calls (answers_to leads image calls s) (undrawn (first_history n t proposals past_end)))
+
 -- ---- rounds, by whether a box of the row rings
 
 module _ {K : Type 0} (leads : K → K → Bool) (image : K → List ℕ) (s : State K) where
@@ -79,7 +85,7 @@ module _ {K : Type 0} (leads : K → K → Bool) (image : K → List ℕ) (s : S
   over_where_refused good refused = grind (arith, nat_tests)
 
 module _ {K : Type 0} (leads : K → K → Bool) (image : K → List ℕ) (agree : (h : History K) → Agreement h leads) (remains : (h : History K) → Allowed h → SomeRemains h)
-    (only_past : (h : History K) → OnlyPast h leads) (coming : FallToCome) (follow : CallsPromised leads image) (s : Contents) (p : Proper s) (proposals : List K) (past_end : K)
+    (only_past : (h : History K) → OnlyPast h leads) (coming : FallToCome) (follow : CallsFollow leads image) (s : Contents) (p : Proper s) (proposals : List K) (past_end : K)
     (places : ℕ) (m : Meaning) (first : State K) (formed : WellFormed m) (made : making s.n s.t m places proposals ≡ Ok first) where
   abbrev proposed : ℕ → K
   proposed q = get_or proposals q past_end
@@ -154,7 +160,7 @@ module _ {K : Type 0} (leads : K → K → Bool) (image : K → List ℕ) (agree
 
   begun : At (at 0) (past 0 falls) 0
   unfolding calls_to state_after
-  begun = subst (λ f. At first f 0) (λ i q. by (falls q) (dated s p proposed q) i) (λ more. (follow s.n s.t places m proposals first formed made past_end more).follows)
+  begun = subst (λ f. At first f 0) (λ i q. by (falls q) (dated s p proposed q) i) (λ more. follow s.n s.t places m proposals first formed made past_end more)
     where
       by : (o : Option Fall) → fell_before o 1 ≡ false → None ≡ so_far 0 o
       by o e = ap (λ b. cond b o None) (sym e)
@@ -195,7 +201,7 @@ module _ {K : Type 0} (leads : K → K → Bool) (image : K → List ℕ) (agree
       )
 
 pub script_plays : {K : Type 0} (leads : K → K → Bool) (image : K → List ℕ) → ((h : History K) → Agreement h leads) → ((h : History K) → Allowed h → SomeRemains h)
-    → ((h : History K) → OnlyPast h leads) → FallToCome → CallsPromised leads image → ScriptPlays leads image
+    → ((h : History K) → OnlyPast h leads) → FallToCome → CallsFollow leads image → ScriptPlays leads image
 script_plays leads image agree remains only_past coming follow s p proposals past_end =
     let proposed = λ (q : ℕ). get_or proposals q past_end in
     let e = ends leads agree remains only_past s p proposed in (

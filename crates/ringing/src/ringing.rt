@@ -47,7 +47,7 @@ impl<W: Wire> Ringing<W> {
     ) -> Result<Ringing<W>, (W, Refusal)>
         ensures ringing { result_map_both (λ r. state (W.meaning r.wire) r.t r.closed row.new) (λ e. e) result ≡ map_fault (λ e. (wire, e)) (making n t (W.meaning wire) (length row.old) proposals.now) }
         ensures refused { OnErr result (row.new ≡ row.old) }
-        ensures promised { let m = W.meaning wire in IfOk (making n t m (length row.old) proposals.now) (λ s. (past_end : K) (calls : List Request) → Promised K.leads K.image m.posted calls s (undrawn (first_history n t proposals.now past_end))) }
+        ensures promised { let m = W.meaning wire in IfOk (making n t m (length row.old) proposals.now) (λ s. (past_end : K) (calls : List Request) → Promised K.leads K.SIZE K.named K.image m.posted calls s (undrawn (first_history n t proposals.now past_end))) }
     {
         let _ = calls_follow::<K>();
         match set_up(n, t, &wire, row, proposals) {

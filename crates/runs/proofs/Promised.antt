@@ -10,7 +10,7 @@ use Rattle.kinds.specs.Orders.{before}
 use Rattle.rule.specs.Falls.{closes}
 use Rattle.rule.specs.Histories.{History, ringing_round}
 use Rattle.rule.specs.Values as rule
-use Rattle.rule.specs.Theorems.{RingsIn, BoxBegins, BoxFollows, Agreement}
+use Rattle.rule.specs.Theorems.{RingsIn, BoxBegins, BoxRests, BoxFollowsSent, Agreement}
 use Rattle.rule.proofs.Waste.{waste_few}
 use Rattle.rows.specs.declared.place.Blow.{Blow}
 use Rattle.rows.specs.declared.place.Rung.{Rung}
@@ -31,7 +31,7 @@ told_place (Some (down r)) x e = absurd (grind arith)
 told_place (Some (rung y)) x e = cc
 
 module _ {K : Type 0} (leads : K → K → Bool) (image : K → List ℕ) (unopened : ℕ → Option (List ℕ)) (h : History K) (g : Going leads image unopened (state_by leads h image unopened) h)
-    (blows : ℕ → Blow) (agree : Agreement h leads) (begins : BoxBegins h leads) (follows : BoxFollows h leads) where
+    (blows : ℕ → Blow) (agree : Agreement h leads) (begins : BoxBegins h leads) (rests : BoxRests h leads) (size : ℕ) (named : List ℕ → Option K) (follows : BoxFollowsSent h leads size named image) where
   abbrev s : State K
   s = with_blows blows (state_by leads h image unopened)
 
@@ -112,7 +112,7 @@ module _ {K : Type 0} (leads : K → K → Bool) (image : K → List ℕ) (unope
           tells (stands p.0) ∙ rung_kept p.0 ∙ rings_at leads image unopened h g blows p.0
           ∙ here (grind (arith, nat_tests)) (cases_eq h.closed (ringing_round h)) (cases_Bool (closes h.falls p.0 h.closed))
 
-  pub one_ring : OneRing leads s h
+  pub one_ring : OneRing leads size named image s h
   one_ring = record {
     one_round = λ p q x y a b. let e = told p x a in let f = told q y b in λ j. record { 0 = (e.round ∙ sym f.round) j };
     one_proposal = λ p q x y a b. let e = told p x a in let f = told q y b in e.proposal ∙ (agree g.allowed).3 p.0 q.0 e.in_last f.in_last ∙ sym f.proposal;
@@ -122,11 +122,13 @@ module _ {K : Type 0} (leads : K → K → Bool) (image : K → List ℕ) (unope
     exactly = exact;
     at = λ p x a. let e = told p x a in e.round ∙ round_is p.0 e.in_last;
     begins = begins;
+    rests = rests;
     closes = follows;
   }
 
-pub rings_once : {K : Type 0} (leads : K → K → Bool) (image : K → List ℕ) (unopened : ℕ → Option (List ℕ)) (s : State K) (c : Course K) → ((h : History K) → Agreement h leads)
-    → ((h : History K) → BoxBegins h leads) → ((h : History K) → BoxFollows h leads) → Kept leads image unopened s c → OneRing leads s c.history
-rings_once leads image unopened s c agree begins follows k =
-    subst (λ x. OneRing leads x c.history) (sym k.is)
-    (one_ring leads image unopened c.history k.going c.blows (agree c.history) (begins c.history) (follows c.history))
+pub rings_once : {K : Type 0} (leads : K → K → Bool) (size : ℕ) (named : List ℕ → Option K) (image : K → List ℕ) (unopened : ℕ → Option (List ℕ)) (s : State K) (c : Course K)
+    → ((h : History K) → Agreement h leads) → ((h : History K) → BoxBegins h leads) → ((h : History K) → BoxRests h leads) → ((h : History K) → BoxFollowsSent h leads size named image) → Kept leads image unopened s c
+    → OneRing leads size named image s c.history
+rings_once leads size named image unopened s c agree begins rests follows k =
+    subst (λ x. OneRing leads size named image x c.history) (sym k.is)
+    (one_ring leads image unopened c.history k.going c.blows (agree c.history) (begins c.history) (rests c.history) size named (follows c.history))

@@ -1,12 +1,12 @@
 -- The promise: what is told of the boxes after a list of calls, by the history that the calls and their answers give. Assumes nothing.
-use Rattle.std.specs.Prelude.{◌≡◌, ℕ, ◌+◌, ◌<◌, ◌≤◌, Bool, true, false, cond, ◌&&◌, List, [], ◌∷◌, Ok, Err, Result, ◌==◌, nat_le, nat_lt}
+use Rattle.std.specs.Prelude.{◌≡◌, ℕ, ◌+◌, ◌<◌, ◌≤◌, Bool, true, false, cond, ◌&&◌, List, [], ◌∷◌, Ok, Err, Option, Result, ◌==◌, nat_le, nat_lt}
 use Rattle.numbers.specs.declared.refusal.Refusal.{Refusal}
 use Rattle.sets.specs.declared.labels.BoxNumber.{BoxNumber}
 use Rattle.kinds.specs.Orders.{before}
 use Rattle.rule.specs.Falls.{closes}
 use Rattle.rule.specs.Histories.{History, ringing_round}
 use Rattle.rule.specs.Values.{estimate}
-use Rattle.rule.specs.Theorems.{BoxBegins, BoxFollows}
+use Rattle.rule.specs.Theorems.{BoxBegins, BoxRests, BoxFollowsSent}
 use Rattle.rows.specs.declared.place.Rung.{Rung}
 use Rattle.rows.specs.declared.place.Standing.{Standing}
 use Rattle.rows.specs.declared.place.Standing.TheVariants as standing
@@ -35,7 +35,7 @@ abbrev pub has_closed : {K : Type 0} → History K → ℕ → ℕ → Bool
 has_closed h p r = nat_lt p h.n && nat_le 1 r && nat_le r h.closed && closes h.falls p r
 
 -- what is promised of what is told of the boxes, in a state to which calls with this history led
-pub record OneRing {K : Type 0} (leads : K → K → Bool) (s : State K) (h : History K) : Type 0 where
+pub record OneRing {K : Type 0} (leads : K → K → Bool) (size : ℕ) (named : List ℕ → Option K) (image : K → List ℕ) (s : State K) (h : History K) : Type 0 where
   -- all boxes that ring do so in one round and on one proposal
   pub one_round : (p q : BoxNumber) (x y : Rung K) → ToldRinging s p x → ToldRinging s q y → x.round ≡ y.round
   pub one_proposal : (p q : BoxNumber) (x y : Rung K) → ToldRinging s p x → ToldRinging s q y → x.proposal ≡ y.proposal
@@ -47,10 +47,11 @@ pub record OneRing {K : Type 0} (leads : K → K → Bool) (s : State K) (h : Hi
   -- a box rings exactly when it closed round t + 1 - D, and that is the one round
   pub exactly : (p : BoxNumber) → tells_ringing (asking p s) ≡ has_closed h p.0 (ringing_round h)
   pub at : (p : BoxNumber) (x : Rung K) → ToldRinging s p x → x.round.0 ≡ ringing_round h
-  -- and estimates are what the boxes' own closing gives: a new box begins with the rule's values, and from those that it holds and the frames of
-  -- the boxes that it hears each box closes a round to the next
+  -- and estimates are what the boxes' own closing gives: a new box begins with the rule's values; while one has not rung there is a box at rest with
+  -- them; and such a box, told the frames of just the boxes that it hears in the next round, closes that round to its values
   pub begins : BoxBegins h leads
-  pub closes : BoxFollows h leads
+  pub rests : BoxRests h leads
+  pub closes : BoxFollowsSent h leads size named image
 
 -- ---- each strike order is given back at most once
 

@@ -57,12 +57,13 @@ pub record Follows {K : Type 0} (leads : K → K → Bool) (image : K → List �
 -- what is promised of calls from a state on, accepted or refused, where this course led up to it. By the course that they and their answers give: the
 -- ringing with its row is that of the course; all boxes that ring do so in round t + 1 - D, just those that closed it, and on one proposal; and each
 -- strike order is given back at most once
-pub record Promised {K : Type 0} (leads : K → K → Bool) (image : K → List ℕ) (unopened : ℕ → Option (List ℕ)) (calls : List Request) (s : State K) (first : Course K) : Type 0 where
+pub record Promised {K : Type 0} (leads : K → K → Bool) (size : ℕ) (named : List ℕ → Option K) (image : K → List ℕ) (unopened : ℕ → Option (List ℕ)) (calls : List Request) (s : State K)
+    (first : Course K) : Type 0 where
   pub follows : Follows leads image unopened (state_after leads image calls s) (course_after calls (answers_to leads image calls s) first)
-  pub one_ring : OneRing leads (state_after leads image calls s) (course_after calls (answers_to leads image calls s) first).history
+  pub one_ring : OneRing leads size named image (state_after leads image calls s) (course_after calls (answers_to leads image calls s) first).history
   pub orders : OrdersOnce calls (answers_to leads image calls s)
 
 -- it is so of every list of calls, from the making on
-abbrev pub CallsPromised : {K : Type 0} → (K → K → Bool) → (K → List ℕ) → Type 0
-CallsPromised {K} leads image = (n t places : ℕ) (m : Meaning) (proposals : List K) (s : State K) → WellFormed m → making n t m places proposals ≡ Ok s
-    → (past_end : K) (calls : List Request) → Promised leads image m.posted calls s (undrawn (first_history n t proposals past_end))
+abbrev pub CallsPromised : {K : Type 0} → (K → K → Bool) → ℕ → (List ℕ → Option K) → (K → List ℕ) → Type 0
+CallsPromised {K} leads size named image = (n t places : ℕ) (m : Meaning) (proposals : List K) (s : State K) → WellFormed m → making n t m places proposals ≡ Ok s
+    → (past_end : K) (calls : List Request) → Promised leads size named image m.posted calls s (undrawn (first_history n t proposals past_end))

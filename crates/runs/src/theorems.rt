@@ -9,7 +9,7 @@ use rule::{box_follows, rule_stands};
 // gives for the history of the calls; all boxes that ring do so at once; and each strike order is given back at most once.
 pub fn calls_follow<K: Kind>() -> u8
     ensures zero { result ≡ 0 }
-    ensures promised { CallsPromised K.leads K.image }
+    ensures promised { CallsPromised K.leads K.SIZE K.named K.image }
 {
     rule_stands::<K>() + box_follows::<K>()
 }

@@ -68,6 +68,6 @@ returns-clause-promised g c =
     let f = c.args.ringing.now in
     let s = state (g.W.Wire.meaning r.wire) r.t r.closed c.loop-index.row in
     let all : c.loop-index.index ≡ length c.args.calls.now = omega (arith, c.loop-index-test.false, c.loop-index.auto.index-end) in
-    goes_on k.leads k.image c.calls_follow.ensures.promised c.args.calls.now (state (g.W.Wire.meaning f.wire) f.t f.closed c.args.row.now) s c.loop-index.answers _
+    goes_on k.leads k.SIZE k.named k.image c.calls_follow.ensures.promised c.args.calls.now (state (g.W.Wire.meaning f.wire) f.t f.closed c.args.row.now) s c.loop-index.answers _
     (sym (ends_so k.leads k.image c.args.calls.now c.loop-index.index c.loop-index-test.false s) ∙ v.ends)
     (answers_so k.leads k.image c.args.calls.now c.loop-index.index c.loop-index-test.false s c.loop-index.answers c.args.answers.now _ all v.answers v.rest)

@@ -11,7 +11,8 @@ pub returns-clause-plays : goal.returns-clause-plays
 returns-clause-plays g c =
     let k = g.K.Kind in
     let rule = c.rule_stands.ensures in
-    script_plays k.leads k.image rule.agree rule.remains rule.past rule.coming c.calls_follow.ensures.promised
+    script_plays k.leads k.image rule.agree rule.remains rule.past rule.coming
+    (λ n t places m proposals s formed made past_end calls. (c.calls_follow.ensures.promised n t places m proposals s formed made past_end calls).follows)
 
 pub returns-clause-entries : goal.returns-clause-entries
 returns-clause-entries g c = entries_count

@@ -16,7 +16,7 @@ returns g c =
           let kept = calls_kept k.leads k.image rule.coming rule.past boxes.begins boxes.follows n t places m proposals s formed made past_end calls in
           record {
             follows = follows k.leads k.image m.posted _ _ kept;
-            one_ring = rings_once k.leads k.image m.posted _ _ rule.agree boxes.begins boxes.follows kept;
+            one_ring = rings_once k.leads k.SIZE k.named k.image m.posted _ _ rule.agree boxes.begins boxes.rests boxes.sent kept;
             orders = orders_once k.leads k.image n t places m proposals s made calls;
           };
     }
