@@ -1,0 +1,1 @@
+// Lists of calls, with the orders in hand.
