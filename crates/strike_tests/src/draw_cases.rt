@@ -1,5 +1,7 @@
 // Drawing: what it refuses, in the order in which the refusals count, and what is told of a box whose order was drawn.
-use super::fixtures::{EMPTY, draws, falls, misses, of_four, plays, rung_in_three, rung_in_two, strikes, tells};
+use super::fixtures::{
+    EMPTY, draws, falls, misses, of_four, plays, rung_in_three, rung_in_two, strikes, tells,
+};
 use kinds::Piece;
 use numbers::Refusal;
 use ringing::Ringing;
@@ -101,17 +103,47 @@ fn drawn_once<W: Wire + Drop>(rt: &impl Abort, wire: W) -> Result<(), Fail> {
     let mut row = [EMPTY; 4];
     let ringing = rung_in_three(wire, &mut row)?;
     let piece = Piece::new(10)?;
-    tells(rt, &ringing, &row, piece, [Blow::Rings, Blow::Rings, Blow::Rings]);
+    tells(
+        rt,
+        &ringing,
+        &row,
+        piece,
+        [Blow::Rings, Blow::Rings, Blow::Rings],
+    );
     let order = draws(rt, &ringing, &mut row, 0, 3);
-    tells(rt, &ringing, &row, piece, [Blow::Out, Blow::Rings, Blow::Rings]);
+    tells(
+        rt,
+        &ringing,
+        &row,
+        piece,
+        [Blow::Out, Blow::Rings, Blow::Rings],
+    );
     draw_refuses(rt, &ringing, row, 0, Refusal::Order);
     strikes(rt, &ringing, &mut row, order);
-    tells(rt, &ringing, &row, piece, [Blow::Struck, Blow::Rings, Blow::Rings]);
+    tells(
+        rt,
+        &ringing,
+        &row,
+        piece,
+        [Blow::Struck, Blow::Rings, Blow::Rings],
+    );
     draw_refuses(rt, &ringing, row, 0, Refusal::Order);
     let order = draws(rt, &ringing, &mut row, 3, 3);
-    tells(rt, &ringing, &row, piece, [Blow::Struck, Blow::Rings, Blow::Out]);
+    tells(
+        rt,
+        &ringing,
+        &row,
+        piece,
+        [Blow::Struck, Blow::Rings, Blow::Out],
+    );
     misses(rt, &ringing, &mut row, order);
-    tells(rt, &ringing, &row, piece, [Blow::Struck, Blow::Rings, Blow::Missed]);
+    tells(
+        rt,
+        &ringing,
+        &row,
+        piece,
+        [Blow::Struck, Blow::Rings, Blow::Missed],
+    );
     draw_refuses(rt, &ringing, row, 3, Refusal::Order);
     draw_refuses(rt, &ringing, row, 2, Refusal::Silent);
     Ok(())

@@ -4,7 +4,6 @@ use kinds::Piece;
 use numbers::Refusal;
 use ringing::{Ringing, StrikeOrder};
 use rows::{Blow, Place};
-use std::array;
 use std::process::Abort;
 use std::test::Fail;
 use wire::{Board, Tape, Wire};
@@ -47,17 +46,30 @@ fn report<W: Wire>(
     }
 }
 
+// Draws the orders of these boxes one after another, and gives them back once the last is out.
+fn draw_all<W: Wire>(
+    rt: &impl Abort,
+    ringing: &Ringing<W>,
+    row: &mut [Place<Piece>],
+    piece: Piece,
+    left: u32,
+) {
+    if left == 0 {
+        all_tell(rt, ringing, row, piece, Blow::Out, Blow::Out);
+    } else {
+        let order = draws(rt, ringing, row, left - 1, 32);
+        draw_all(rt, ringing, row, piece, left - 1);
+        report(rt, ringing, row, order);
+    }
+}
+
 fn full<W: Wire + Drop>(rt: &impl Abort, wire: W) -> Result<(), Fail> {
     let mut row = [EMPTY; 32];
     let mut ringing = make(32, 31, wire, &mut row, &descending()?)?;
     plays(&mut ringing, &mut row, 32)?;
     let piece = Piece::new(469)?;
     all_tell(rt, &ringing, &row, piece, Blow::Rings, Blow::Rings);
-    let orders: [StrikeOrder; 32] = array::from_fn(|p| draws(rt, &ringing, &mut row, p as u32, 32));
-    all_tell(rt, &ringing, &row, piece, Blow::Out, Blow::Out);
-    for order in orders {
-        report(rt, &ringing, &mut row, order);
-    }
+    draw_all(rt, &ringing, &mut row, piece, 32);
     all_tell(rt, &ringing, &row, piece, Blow::Struck, Blow::Missed);
     Ok(())
 }

@@ -1,8 +1,8 @@
 // Reports: what they refuse, in the order in which the refusals count, and what a ringing still does while orders are out or given back. An order that
 // was taken back cannot be given back once more: it is gone.
 use super::fixtures::{
-    EMPTY, all_rung_in_three, asks, draws, falls, is_for, misses, of_four, plays, rung, rung_in_three, rung_in_two,
-    strikes, tells,
+    EMPTY, all_rung_in_three, asks, draws, falls, is_for, misses, of_four, plays, rung,
+    rung_in_three, rung_in_two, strikes, tells,
 };
 use frames::LONGEST_FRAME;
 use kinds::Piece;
@@ -88,7 +88,10 @@ fn other_round<W: Wire + Drop>(rt: &impl Abort, wire: W, second: W) -> Result<()
     let order = report_refuses(rt, &other, sooner, order, Refusal::Order);
     misses(rt, &ringing, &mut row, order);
     strikes(rt, &other, &mut sooner, early);
-    assert_eq!(rt; asks(&other, &sooner, 0), Ok(rung(2, Piece::new(20)?, Blow::Struck)));
+    assert_eq!(rt;
+        asks(&other, &sooner, 0),
+        Ok(rung(2, Piece::new(20)?, Blow::Struck))
+    );
     Ok(())
 }
 
@@ -184,10 +187,22 @@ fn over<W: Wire + Drop>(rt: &impl Abort, wire: W) -> Result<(), Fail> {
     is_over(rt, &mut ringing, &mut row);
     strikes(rt, &ringing, &mut row, first);
     misses(rt, &ringing, &mut row, second);
-    tells(rt, &ringing, &row, piece, [Blow::Struck, Blow::Missed, Blow::Out]);
+    tells(
+        rt,
+        &ringing,
+        &row,
+        piece,
+        [Blow::Struck, Blow::Missed, Blow::Out],
+    );
     is_over(rt, &mut ringing, &mut row);
     strikes(rt, &ringing, &mut row, fourth);
-    tells(rt, &ringing, &row, piece, [Blow::Struck, Blow::Missed, Blow::Struck]);
+    tells(
+        rt,
+        &ringing,
+        &row,
+        piece,
+        [Blow::Struck, Blow::Missed, Blow::Struck],
+    );
     is_over(rt, &mut ringing, &mut row);
     Ok(())
 }
@@ -247,13 +262,28 @@ fn written<W: Wire + Drop>(rt: &impl Abort, wire: W) -> Result<(), Fail> {
     let ringing = rung_in_three(wire, &mut row)?;
     let first = draws(rt, &ringing, &mut row, 0, 3);
     let second = draws(rt, &ringing, &mut row, 1, 3);
-    writes(rt, &ringing, &row, b"0 out 3 10\n1 out 3 10\n2 down 1\n3 rings 3 10\n");
+    writes(
+        rt,
+        &ringing,
+        &row,
+        b"0 out 3 10\n1 out 3 10\n2 down 1\n3 rings 3 10\n",
+    );
     let fourth = draws(rt, &ringing, &mut row, 3, 3);
     strikes(rt, &ringing, &mut row, second);
     misses(rt, &ringing, &mut row, fourth);
-    writes(rt, &ringing, &row, b"0 out 3 10\n1 struck 3 10\n2 down 1\n3 missed 3 10\n");
+    writes(
+        rt,
+        &ringing,
+        &row,
+        b"0 out 3 10\n1 struck 3 10\n2 down 1\n3 missed 3 10\n",
+    );
     strikes(rt, &ringing, &mut row, first);
-    writes(rt, &ringing, &row, b"0 struck 3 10\n1 struck 3 10\n2 down 1\n3 missed 3 10\n");
+    writes(
+        rt,
+        &ringing,
+        &row,
+        b"0 struck 3 10\n1 struck 3 10\n2 down 1\n3 missed 3 10\n",
+    );
     Ok(())
 }
 
