@@ -1,6 +1,5 @@
-// A list of calls on a ringing of four boxes, over a board and over a tape, with calls among them that are refused. After each it shows the call, what
-// it answers, and what is told of each box. Box 2 falls in round 1, and box 0 does not hear it; the others ring, and their strike orders are drawn and
-// given back.
+// A list of calls on a ringing of four boxes, over a board and over a tape, some of them refused: each call, its answer, and what is told of
+// each box after it. Box 2 falls in round 1, and box 0 does not hear it; the others ring, and their strike orders are drawn and given back.
 #![tactic(auto)]
 
 use frames::LONGEST_FRAME;

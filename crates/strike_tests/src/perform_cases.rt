@@ -252,8 +252,8 @@ fn lists_one_after_another(rt: HostRuntime) -> Result<(), Fail> {
     in_three_lists(&rt, Tape::new(4)?)
 }
 
-// A report of an order that is not in hand: of another round, not drawn, of a box that is down or outside the company, reported before. The order in
-// hand stays there, and at last it is given back.
+// A report of an order that is not in hand: of another round, not drawn, of a box that is down or outside the company, reported before. The
+// order in hand stays there, and at last it is given back.
 fn not_in_hand<W: Wire + Drop>(rt: &impl Abort, wire: W) -> Result<(), Fail> {
     let mut row = [EMPTY; 4];
     let mut ringing = rung_in_three(wire, &mut row)?;

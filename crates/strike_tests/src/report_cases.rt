@@ -1,5 +1,5 @@
-// Reports: what they refuse, in the order in which the refusals count, and what a ringing still does while orders are out or given back. An order that
-// was taken back cannot be given back once more: it is gone.
+// Reports: what they refuse, in the order in which the refusals count, and what a ringing still does while orders are out or given back. That
+// an order is given back twice cannot be tried: once it is taken back, there is none to give.
 use super::fixtures::{
     EMPTY, all_rung_in_three, asks, draws, falls, is_for, misses, of_four, plays, rung,
     rung_in_three, rung_in_two, strikes, tells,
