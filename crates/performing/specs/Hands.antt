@@ -28,22 +28,25 @@ abbrev pub is_order : ℕ → RoundNumber → Option StrikeOrder → Bool
 is_order p r None = false
 is_order p r (Some o) = o.number.0 == p && o.round.0 == r.0
 
--- the same among some, if it lies in the slot of box p; and they without it
+-- what the slot of box p holds; nothing past the last slot
 abbrev pub slot_at : List (Option StrikeOrder) → BoxNumber → Option StrikeOrder
 slot_at orders p = get_or orders p.0 None
 
+-- the order of box p and round r, if it lies in p's slot
 abbrev pub order_in_hand : BoxNumber → RoundNumber → List (Option StrikeOrder) → Option StrikeOrder
 order_in_hand p r orders = cond (is_order p.0 r (slot_at orders p)) (slot_at orders p) None
 
+-- the slots once that order is taken out
 abbrev pub without : BoxNumber → RoundNumber → List (Option StrikeOrder) → List (Option StrikeOrder)
 without p r orders = set orders p.0 (cond (is_order p.0 r (slot_at orders p)) None (slot_at orders p))
 
--- whether the orders in hand are those that are out
+-- both slots are empty, or hold orders of the same box and round
 abbrev pub same_order : Option StrikeOrder → Option StrikeOrder → Bool
 same_order None None = true
 same_order None (Some o) = false
 same_order (Some o) x = is_order o.number.0 o.round x
 
+-- there are as many slots as places, and each holds just the order of its box, if that is out
 unfoldable pub are_out : {K : Type 0} → List (Stand K) → List (Option StrikeOrder) → Bool
 are_out row orders = length row == length orders && not (any_numbered (λ p x. not (same_order (order_out p x) (get_or orders p None))) row)
 

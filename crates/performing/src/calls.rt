@@ -161,8 +161,9 @@ fn put<K: Kind>(
 }
 
 // Makes calls on a ringing, one after another, and writes what each answers into the places given. The orders in hand, a slot for each box, are those
-// that are out; draws put more there, and reports take them from there. It refuses if the orders in hand are others, or there are too few places for
-// the answers, and then no call is made.
+// that are out; draws put more there, and reports take them from there. It refuses the row if the slots hold other orders, or are not as many as the
+// places, or if there are fewer places for answers than calls; then nothing changes. Where a make and calls led up to it, what the make promises holds
+// of its end.
 pub fn perform<W: Wire, K: Kind>(
     ringing: &mut Ringing<W>,
     row: &mut [Place<K>],

@@ -10,7 +10,7 @@ use Rattle.runs.specs.declared.request.Reply.TheVariants as reply
 use Rattle.runs.specs.Runs.{Answer}
 use Rattle.ringing.specs.declared.strike.StrikeOrder.{StrikeOrder}
 
--- the order of box p, of the round that is told
+-- the order of box p, of the round that is told, or the refusal
 abbrev pub handed_out : {X : Type 0} → BoxNumber → Result (RoundNumber × X) Refusal → Result StrikeOrder Refusal
 handed_out p r = result_map_both (λ x. record { number = p; round = x.0 }) (λ e. e) r
 

@@ -34,10 +34,10 @@ impl<W: Wire> Ringing<W> {
 
     // Makes a ringing of n boxes, of which t may fall, over a wire, and sets up a new box with its proposal in each place of the
     // row. A refused make gives the wire back and leaves the row as it was. After an accepted one and any calls, accepted or refused, each
-    // handed the row as the call before left it, and by what they and their answers tell: the ringing and its row are those of the rule; the boxes
-    // that ring are just those that closed round t + 1 - D, which ring in it, on the one estimate that each reaches, which a box proposed and no
-    // ringing box one that goes before it; and each strike order is given back at most once. What stands for proposals past the end of the list,
-    // `past_end`, does not count.
+    // handed the row as the call before left it, and by what they and their answers tell: the ringing and its row are those of the rule. The boxes
+    // that ring are just those that closed round t + 1 - D, and they ring in that round, on one proposal. It is the estimate that each reaches; a box
+    // proposed it, and no ringing box proposed one that goes before it. Of each box an order is handed out at most once, and each order is given
+    // back at most once, and only if it was handed out. What stands for proposals past the end of the list, `past_end`, does not count.
     pub fn make<K: Kind>(
         n: u32,
         t: u32,

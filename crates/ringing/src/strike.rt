@@ -14,8 +14,8 @@ use rows::{Blow, Place, Rung};
 use sets::{BoxNumber, RoundNumber};
 use wire::Wire;
 
-// That the blow of a box is to be struck, in the round in which it rings. It is neither copied nor let go: who holds one must report it, as struck or
-// as missed. It tells its box and its round alone, so it is taken back wherever such an order is out.
+// That the blow of a box is to be struck, in the round in which it rings. It is neither copied nor dropped: who holds one reports it, as struck or as
+// missed, or hands it on. It tells its box and its round alone, so it is taken back wherever such an order is out.
 #[derive(Debug)]
 pub struct StrikeOrder {
     pub(crate) number: BoxNumber,
@@ -44,7 +44,7 @@ fn rung_at<K: Kind>(row: &[Place<K>], p: BoxNumber) -> Option<Rung<K>>
     row.get(p.0 as usize).and_then(Place::rung)
 }
 
-// The blow of box p is this one, if the box rings.
+// Sets the blow of box p, if it rings.
 fn set_blow<K: Kind>(row: &mut [Place<K>], p: BoxNumber, blow: Blow)
     ensures { (s : State K) → s.row ≡ map shown row.old → map shown row.new ≡ (with_blow blow p.0 s).row }
 {

@@ -151,7 +151,7 @@ module _ {K : Type 0} where
 
   -- ---- strike orders. The plain numbers of one are its box and its round
 
-  -- the same, where the blow of box p is b, if it rings; and where the blow of each is so
+  -- the state with b for the blow of box p, if it rings; and with these for the blows of all that ring
   abbrev pub with_blow : Blow → ℕ → State K → State K
   with_blow b p s = record s { row = by_number (λ q x. cond (q == p) (come_to b x) x) s.row }
 

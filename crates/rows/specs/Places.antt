@@ -17,12 +17,13 @@ pub data Stand (K : Type 0) : Type 0 where
   down : RoundNumber → Stand K
   rung : Rung K → Stand K
 
+-- what stands at a place
 abbrev pub shown : {K : Type 0} → Place K → Stand K
 shown (place.Resting b) = at_rest b.held
 shown (place.Down r) = down r
 shown (place.Rung x) = rung x
 
--- what stands for a box that has closed a round: it is at rest, or rings and has drawn no strike order
+-- what stands for a box that has closed a round: it is at rest, or rings, and no strike order of it was drawn
 abbrev pub stand_of : {K : Type 0} → Outcome K → Stand K
 stand_of (rests b) = at_rest b
 stand_of (rings r v) = rung (record { round = r; proposal = v; blow = blow.Rings })
@@ -45,13 +46,14 @@ come_to b (at_rest h) = at_rest h
 come_to b (down r) = down r
 come_to b (rung x) = rung (record x { blow = b })
 
--- no strike order was drawn yet; one was, and is out
+-- no strike order was drawn yet
 abbrev pub is_undrawn : Blow → Bool
 is_undrawn blow.Rings = true
 is_undrawn blow.Out = false
 is_undrawn blow.Struck = false
 is_undrawn blow.Missed = false
 
+-- one was, and is out
 abbrev pub is_out : Blow → Bool
 is_out blow.Rings = false
 is_out blow.Out = true

@@ -93,8 +93,8 @@ module _ {K : Type 0} where
   gives_back p k (request.Ask q) _ = false
   gives_back p k (request.Draw q) _ = false
 
-  -- of each box an order is handed out at most once; and each order is given back at most once, and not unless it was handed out. That it was so
-  -- before says the same of the calls up to then
+  -- of each box an order is handed out at most once; and each order is given back at most once, and not unless it was handed out. That it
+  -- was handed out before follows by taking the list up to that report
   pub record OrdersOnce (calls : List Request) (answers : List (Answer K)) : Type 0 where
     pub drawn : (p : ℕ) → count_accepted (draws p) calls answers ≤ 1
     pub returned : (p k : ℕ) → count_accepted (gives_back p k) calls answers ≤ 1

@@ -37,11 +37,11 @@ pub record Course (K : Type 0) : Type 0 where
 abbrev pub first_history : {K : Type 0} → ℕ → ℕ → List K → K → History K
 first_history n t proposals past_end = record { n = n; t = t; proposals = λ p. get_or proposals p past_end; falls = no_falls; closed = 0 }
 
--- a history in which no order was drawn
+-- the course of a history in which no order was drawn
 abbrev pub undrawn : {K : Type 0} → History K → Course K
 undrawn h = record { history = h; blows = λ p. blow.Rings }
 
--- the same, where the blow of box p is b
+-- blows, with b for that of box p
 abbrev pub blown : Blow → ℕ → (ℕ → Blow) → ℕ → Blow
 blown b p blows q = cond (q == p) b (blows q)
 
@@ -54,7 +54,7 @@ with_call (request.Draw p) c = record c { blows = blown blow.Out p.0 c.blows }
 with_call (request.Struck p r) c = record c { blows = blown blow.Struck p.0 c.blows }
 with_call (request.Missed p r) c = record c { blows = blown blow.Missed p.0 c.blows }
 
--- after calls with their answers. A refused call adds nothing
+-- after calls with their answers. A refused call adds nothing, and one with no answer ends it
 unfoldable pub course_after : {K : Type 0} → List Request → List (Answer K) → Course K → Course K
 course_after [] answers c = c
 course_after (call ∷ calls) [] c = c
@@ -118,10 +118,12 @@ stood None r o = stand_of o
 stood (Some f) r o = cond (nat_le f.round.0 r) (down f.round) (stand_of o)
 
 module _ {K : Type 0} (leads : K → K → Bool) (h : History K) where
-  -- what stands for box p after the closed rounds: by the rule it rests with its values, or rings
+  -- what stands for box p after the closed rounds: it is down since its round if it fell up to then; otherwise by the rule it rests with its values,
+  -- or rings
   abbrev pub stand_by : ℕ → Stand K
   stand_by p = stood (h.falls p) h.closed (outcome_of h leads p h.closed)
 
+  -- the row, the wire and both
   unfoldable pub row_by : List (Stand K)
   row_by = map stand_by (range_with_len 0 h.n)
 

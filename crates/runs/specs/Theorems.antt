@@ -27,7 +27,7 @@ abbrev pub somebody_rings : {K : Type 0} → History K → Bool
 somebody_rings h = any (λ p. closes h.falls p h.closed && rings h p h.closed) h.n
 
 -- box q may fall in the round to come, with this lost set: nobody rings, q is of the company, the set has boxes of the company alone and not
--- q, q has not fallen, and fewer than t have
+-- q, q has no fall, nor one to come, and fewer than t boxes have
 abbrev pub may_fall : {K : Type 0} → History K → ℕ → BoxSet → Bool
 may_fall h q lost =
     not (somebody_rings h) && nat_lt q h.n && not (bad_lost h.n q lost)

@@ -110,7 +110,7 @@ fn answers<W: Wire>(
     }
 }
 
-// A list is refused: ringing, row and answers are as they were.
+// A list is refused: row and answers are as they were, and no box is falling.
 fn refuses<W: Wire>(
     rt: &impl Abort,
     ringing: &mut Ringing<W>,
