@@ -1,2 +1,2 @@
-mod Hands
+pub mod Hands
 mod Making

@@ -2,6 +2,10 @@
 // each box after it. Box 2 falls in round 1, and box 0 does not hear it; the others ring, and their strike orders are drawn and given back.
 #![tactic(auto)]
 
+ghost use Rattle.std.specs.Prelude.{◌≡◌};
+ghost use Rattle.ringing.specs.States.{state};
+ghost use Rattle.show_strikes.specs.Returned.{IsTakenBack, returned, AreReady};
+
 use frames::LONGEST_FRAME;
 use kinds::Piece;
 use numbers::Refusal;
@@ -11,13 +15,19 @@ use rows::{Place, Standing};
 use runs::{Reply, Request};
 use sets::{BoxNumber, BoxSet, RoundNumber};
 use std::io;
-use std::process::Abort;
 use wire::{Board, Tape, Wire};
 
 // The company: four boxes, of which two may fall.
 const N: u32 = 4;
 
 const T: u32 = 2;
+
+// How many calls there are, how many places one takes in the list with the questions after it, and how long the list is.
+const CALLS: usize = 26;
+
+const STEP: usize = 1 + N as usize;
+
+const LENGTH: usize = STEP * CALLS;
 
 fn proposals() -> Result<[Piece; 4], Refusal> {
     Ok([
@@ -52,7 +62,7 @@ fn missed(p: u32, round: u32) -> Request {
 // A round with just enough line bytes.
 const ROUND: Request = Request::Round(LONGEST_FRAME);
 
-fn calls() -> [Request; 26] {
+fn calls() -> [Request; CALLS] {
     [
         ask(1),
         ask(9),
@@ -83,11 +93,16 @@ fn calls() -> [Request; 26] {
     ]
 }
 
-fn make<W: Wire + Drop>(wire: W, row: &mut [Place<Piece>]) -> Result<Ringing<W>, Refusal> {
-    match Ringing::make(N, T, wire, row, &proposals()?) {
-        Ok(ringing) => Ok(ringing),
-        Err((_, refusal)) => Err(refusal),
+// The calls, and after each of them each box is asked after.
+fn list() -> [Request; LENGTH] {
+    let mut list = [ROUND; LENGTH];
+    for (i, request) in calls().iter().enumerate() {
+        list[STEP * i] = *request;
+        for p in 0..N {
+            list[STEP * i + 1 + p as usize] = ask(p);
+        }
     }
+    list
 }
 
 fn show_request(rt: &impl Print, request: Request) -> io::Result<()> {
@@ -125,91 +140,101 @@ fn show_answer(rt: &impl Print, answer: Result<Reply<Piece>, Refusal>) -> io::Re
 }
 
 // A line of what is told of all boxes.
-fn show_row<W: Wire>(
-    rt: &impl Print,
-    ringing: &Ringing<W>,
-    row: &[Place<Piece>],
-) -> io::Result<()> {
-    let mut separator = "";
-    for p in 0..N {
-        print!(rt; "{separator} {p} ")?;
-        match ringing.ask(row, BoxNumber(p)) {
-            Ok(standing) => show_standing(rt, standing)?,
+fn show_told(rt: &impl Print, told: &[Result<Reply<Piece>, Refusal>]) -> io::Result<()> {
+    for (p, answer) in told.iter().enumerate() {
+        if p > 0 {
+            print!(rt; ";")?;
+        }
+        print!(rt; " {p} ")?;
+        match answer {
+            Ok(Reply::Told(standing)) => show_standing(rt, *standing)?,
+            Ok(Reply::Done | Reply::Drawn(_)) => print!(rt; "done")?,
             Err(refusal) => print!(rt; "refused {refusal}")?,
         }
-        separator = ";";
     }
     println!(rt)
 }
 
-// Makes one call, as a list of it alone.
-fn make_call<W: Wire>(
-    ringing: &mut Ringing<W>,
-    row: &mut [Place<Piece>],
-    orders: &mut [Option<StrikeOrder>],
-    request: Request,
-) -> Result<Reply<Piece>, Refusal> {
-    let mut answers = [Ok(Reply::Done)];
-    perform(ringing, row, orders, &[request], &mut answers)?;
-    let [answer] = answers;
-    answer
-}
-
-fn make_calls<W: Wire>(
+// Each call with its answer, and what was told of the boxes after it.
+fn show_answers(
     rt: &impl Print,
-    ringing: &mut Ringing<W>,
-    row: &mut [Place<Piece>],
-    orders: &mut [Option<StrikeOrder>],
+    list: &[Request],
+    answers: &[Result<Reply<Piece>, Refusal>],
 ) -> io::Result<()> {
-    for request in calls() {
-        show_request(rt, request)?;
-        show_answer(rt, make_call(ringing, row, orders, request))?;
-        show_row(rt, ringing, row)?;
+    for (asked, told) in list.chunks(STEP).zip(answers.chunks(STEP)) {
+        if let (Some(request), Some((answer, boxes))) = (asked.first(), told.split_first()) {
+            show_request(rt, *request)?;
+            show_answer(rt, *answer)?;
+            show_told(rt, boxes)?;
+        }
     }
     Ok(())
 }
 
-// Gives back an order that is still in hand, as missed. One that is not taken back ends the process, since no order may be let go.
-fn give_back<W: Wire>(
-    rt: &impl Abort,
+// Gives back an order that is still in hand, as missed. It is proved that it is taken back.
+fn give_back<W: Wire>(ringing: &Ringing<W>, row: &mut [Place<Piece>], slot: Option<StrikeOrder>)
+    requires { let s = state (W.meaning ringing.now.wire) ringing.now.t ringing.now.closed row.old in IsTakenBack s slot }
+    ensures { let s = state (W.meaning ringing.now.wire) ringing.now.t ringing.now.closed row.old in state (W.meaning ringing.now.wire) ringing.now.t ringing.now.closed row.new ≡ returned slot s }
+{
+    match slot {
+        None => (),
+        Some(order) => match ringing.missed(row, order) {
+            Ok(()) => (),
+            Err(_) => unreachable!(),
+        },
+    }
+}
+
+// And all that are. None is by the list above, but no proof here knows that.
+fn give_all_back<W: Wire>(
     ringing: &Ringing<W>,
     row: &mut [Place<Piece>],
-    slot: Option<StrikeOrder>,
-) {
-    if let Some(order) = slot {
-        match ringing.missed(row, order) {
-            Ok(()) => {}
-            Err(_) => rt.abort(),
-        }
-    }
+    orders: [Option<StrikeOrder>; 4],
+)
+    requires { AreReady (state (W.meaning ringing.now.wire) ringing.now.t ringing.now.closed row.old) orders }
+{
+    let [first, second, third, fourth] = orders;
+    give_back(ringing, row, first);
+    give_back(ringing, row, second);
+    give_back(ringing, row, third);
+    give_back(ringing, row, fourth);
 }
 
 // All calls over a wire.
-fn play<R: Print + Abort, W: Wire + Drop>(rt: &R, wire: W) -> io::Result<()> {
+fn play<W: Wire + Drop>(rt: &impl Print, wire: W, proposals: &[Piece; 4]) -> io::Result<()> {
     let mut row = [Place::<Piece>::Down(RoundNumber(0)); 4];
-    let mut ringing = match make(wire, &mut row) {
+    let mut ringing = match Ringing::make(N, T, wire, &mut row, proposals) {
         Ok(ringing) => ringing,
-        Err(refusal) => return println!(rt; "refused {refusal}"),
+        Err((_, refusal)) => return println!(rt; "refused {refusal}"),
     };
     let mut orders: [Option<StrikeOrder>; 4] = [None, None, None, None];
-    let shown = make_calls(rt, &mut ringing, &mut row, &mut orders);
-    let [first, second, third, fourth] = orders;
-    give_back(rt, &ringing, &mut row, first);
-    give_back(rt, &ringing, &mut row, second);
-    give_back(rt, &ringing, &mut row, third);
-    give_back(rt, &ringing, &mut row, fourth);
-    shown
+    let list = list();
+    let mut answers = [Ok(Reply::Done); LENGTH];
+    let performed = perform(&mut ringing, &mut row, &mut orders, &list, &mut answers);
+    give_all_back(&ringing, &mut row, orders);
+    match performed {
+        Ok(()) => show_answers(rt, &list, &answers),
+        Err(refusal) => println!(rt; "refused {refusal}"),
+    }
+}
+
+// On both wires.
+fn play_both(rt: &impl Print, proposals: &[Piece; 4]) -> io::Result<()> {
+    println!(rt; "board")?;
+    match Board::new(N) {
+        Ok(board) => play(rt, board, proposals)?,
+        Err(refusal) => println!(rt; "refused {refusal}")?,
+    }
+    println!(rt; "tape")?;
+    match Tape::new(N) {
+        Ok(tape) => play(rt, tape, proposals),
+        Err(refusal) => println!(rt; "refused {refusal}"),
+    }
 }
 
 fn main(rt: HostRuntime) -> io::Result<()> {
-    println!(&rt; "board")?;
-    match Board::new(N) {
-        Ok(board) => play(&rt, board)?,
-        Err(refusal) => println!(&rt; "refused {refusal}")?,
-    }
-    println!(&rt; "tape")?;
-    match Tape::new(N) {
-        Ok(tape) => play(&rt, tape),
+    match proposals() {
+        Ok(proposals) => play_both(&rt, &proposals),
         Err(refusal) => println!(&rt; "refused {refusal}"),
     }
 }
