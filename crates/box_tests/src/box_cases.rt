@@ -2,8 +2,8 @@
 // What is written goes into arrays that are lent, since the library has no heap, and the byte behind is looked at.
 use boxes::{BoxFault, Closed, Listening, Resting};
 use frames::Field;
-use kinds::{Call, Piece};
-use numbers::Refusal;
+use proposals::{Call, Piece};
+use base::Refusal;
 use sets::{BoxNumber, BoxSet, RoundNumber};
 use std::process::Abort;
 use std::test::Fail;

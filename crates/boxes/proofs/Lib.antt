@@ -1,7 +1,7 @@
-pub mod Unheard
-pub mod Sent
-pub mod Faulted
-pub mod Shown
-pub mod Hears
-pub mod Found
-pub mod Laws
+pub mod BoxLawProofs
+pub mod BytesTold
+pub mod FirstFault
+pub mod FirstFound
+pub mod NotesShowFrames
+pub mod SentFrame
+pub mod UnheardBoxes

@@ -1,11 +1,11 @@
 -- A box at rest: which one is made, and what it sends. Assumes nothing.
 use Rattle.std.specs.Prelude.{ℕ, ◌+◌, false, not, [], ◌∷◌, Result, nat_le}
-use Rattle.numbers.specs.declared.refusal.Refusal.{Refusal}
-use Rattle.numbers.specs.declared.refusal.Refusal.TheVariants.{Stranger, Company}
-use Rattle.numbers.specs.Refusals.{unless}
-use Rattle.sets.specs.declared.labels.BoxNumber.{BoxNumber}
-use Rattle.sets.specs.declared.labels.RoundNumber.{RoundNumber}
-use Rattle.sets.specs.Companies.{company}
+use Rattle.base.specs.declared.refusal.Refusal.{Refusal}
+use Rattle.base.specs.declared.refusal.Refusal.TheVariants.{Stranger, Company}
+use Rattle.base.specs.Refusals.{unless}
+use Rattle.sets.specs.declared.box_number.BoxNumber.{BoxNumber}
+use Rattle.sets.specs.declared.round_number.RoundNumber.{RoundNumber}
+use Rattle.sets.specs.Companies.{is_company}
 use Rattle.sets.specs.Masks.{set_of}
 use Rattle.frames.specs.declared.frame.Frame.{Frame}
 use Rattle.boxes.specs.declared.states.Held.{Held}
@@ -16,7 +16,7 @@ first_held number n t proposal = record { number = number; n = n; t = t; closed 
 
 -- making one
 abbrev pub new_box : {K : Type 0} → BoxNumber → ℕ → ℕ → K → Result (Held K) Refusal
-new_box number n t proposal = unless ((not (company n t), Company) ∷ (nat_le n number.0, Stranger) ∷ []) (first_held number n t proposal)
+new_box number n t proposal = unless ((not (is_company n t), Company) ∷ (nat_le n number.0, Stranger) ∷ []) (first_held number n t proposal)
 
 -- the round that a box opens next, or has open
 abbrev pub next_round : {K : Type 0} → Held K → RoundNumber

@@ -1,5 +1,5 @@
-pub mod Faults
+pub mod BoxFaults
+pub mod BoxLaws
+pub mod BoxRounds
 pub mod Boxes
-pub mod Rounds
-pub mod Rule
-pub mod Theorems
+pub mod ByFrames

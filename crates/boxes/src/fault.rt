@@ -1,10 +1,10 @@
 // Faults of a box: each holds the round that was open, and the fault of a frame comes up inside.
 ghost use Rattle.std.specs.Prelude.{◌≡◌, Some};
 ghost use Rattle.boxes.specs.declared.fault.BoxFault.TheVariants.{Frame, Own};
-ghost use Rattle.boxes.specs.Faults.{refusal_of, round_of, field_of, place_of, fault_text};
+ghost use Rattle.boxes.specs.BoxFaults.{refusal_of, round_of, field_of, place_of, fault_text};
 
 use frames::{Field, FrameFault};
-use numbers::Refusal;
+use base::Refusal;
 use sets::RoundNumber;
 use std::error::Error;
 use std::fmt;

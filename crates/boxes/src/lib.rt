@@ -5,8 +5,8 @@ mod fault;
 mod listening;
 mod resting;
 mod states;
-mod theorems;
+mod laws;
 
 pub use fault::{BoxFault, OwnFault, RoundFault};
 pub use states::{Closed, Listening, Resting};
-pub use theorems::boxes_stand;
+pub use laws::boxes_laws;

@@ -1,23 +1,23 @@
 // A listening box: it hears frames and closes its round.
 ghost use Rattle.std.specs.Prelude.{◌≡◌, ⊤};
 ghost use Rattle.std.specs.Result.{result_map_both, result_unwrap_or};
-ghost use Rattle.frames.specs.Faults.{map_fault};
+ghost use Rattle.base.specs.Results.{map_fault};
 ghost use Rattle.frames.specs.Frames.{read_frame};
 ghost use Rattle.boxes.specs.Boxes.{next_round};
-ghost use Rattle.boxes.specs.Rounds.{round_fault, own_fault, bad_set, checked, noted, hearing, outcome, unheard, closing};
+ghost use Rattle.boxes.specs.BoxRounds.{round_fault, own_fault, bad_set, frame_verdict, notes_with, on_hear, outcome, unheard_boxes, on_close};
 
 use super::fault::{BoxFault, OwnFault, RoundFault};
 use super::states::{Closed, Held, Listening, Notes, Resting};
 use frames::{Frame, read_frame};
-use kinds::Kind;
-use numbers::Refusal;
+use proposals::Proposal;
+use base::Refusal;
 use sets::{BoxNumber, BoxSet, RoundNumber};
 use std::alloc::AllocError;
 
-impl<K: Kind> Notes<K> {
+impl<K: Proposal> Notes<K> {
     // The notes with one frame more.
     fn with(self, frame: Frame<K>) -> Notes<K>
-        ensures { result ≡ noted K.leads self frame }
+        ensures { result ≡ notes_with K.kind self frame }
     {
         Notes {
             heard: self.heard.with(frame.sender),
@@ -42,7 +42,7 @@ impl<K: Copy> Clone for Listening<K> {
     }
 }
 
-impl<K: Kind> Listening<K> {
+impl<K: Proposal> Listening<K> {
     pub fn number(self) -> BoxNumber
         ensures { result ≡ self.resting.held.number }
     {
@@ -67,7 +67,7 @@ impl<K: Kind> Listening<K> {
 
     // The frame that the bytes hold, or its fault with the open round.
     fn read(self, bytes: &[u8]) -> Result<Frame<K>, RoundFault>
-        ensures { result ≡ map_fault (round_fault self.resting.held) (read_frame K.SIZE K.named bytes.now) }
+        ensures { result ≡ map_fault (round_fault self.resting.held) (read_frame K.kind bytes.now) }
     {
         read_frame::<K>(bytes).map_err(|fault| RoundFault {
             round: self.round(),
@@ -76,7 +76,7 @@ impl<K: Kind> Listening<K> {
     }
 
     // Whether the frame's set has a box that it may not have: one outside the company, the sender or the hearer.
-    #[tactic(auto, unfolding(crate::specs::Rounds::bad_set))]
+    #[tactic(auto, unfolding(crate::specs::BoxRounds::bad_set))]
     fn has_bad_set(self, frame: Frame<K>) -> bool
         ensures { result ≡ bad_set self.resting.held frame }
     {
@@ -87,9 +87,9 @@ impl<K: Kind> Listening<K> {
     }
 
     // Whether the box refuses the frame, and why.
-    #[tactic(auto, unfolding(crate::specs::Rounds::checked))]
+    #[tactic(auto, unfolding(crate::specs::BoxRounds::frame_verdict))]
     fn check(self, frame: Frame<K>) -> Result<(), OwnFault>
-        ensures { result ≡ map_fault (own_fault self.resting.held) (checked self.resting.held self.notes frame) }
+        ensures { result ≡ map_fault (own_fault self.resting.held) (frame_verdict self.resting.held self.notes frame) }
     {
         if frame.round != self.round() {
             return Err(self.own_fault(Refusal::OffBeat));
@@ -110,11 +110,11 @@ impl<K: Kind> Listening<K> {
     }
 
     // Hears the frame that the bytes hold; where it is refused the box stays as it was.
-    #[tactic(auto, unfolding(crate::specs::Rounds::hearing))]
+    #[tactic(auto, unfolding(crate::specs::BoxRounds::on_hear))]
     pub fn hear(&mut self, bytes: &[u8]) -> Result<(), BoxFault>
-        ensures answer { result ≡ result_map_both (λ _. tt) (λ e. e) (hearing K.leads K.SIZE K.named self.old.resting.held self.old.notes bytes.now) }
+        ensures answer { result ≡ result_map_both (λ _. tt) (λ e. e) (on_hear K.kind self.old.resting.held self.old.notes bytes.now) }
         ensures resting { self.new.resting ≡ self.old.resting }
-        ensures notes { self.new.notes ≡ result_unwrap_or (hearing K.leads K.SIZE K.named self.old.resting.held self.old.notes bytes.now) self.old.notes }
+        ensures notes { self.new.notes ≡ result_unwrap_or (on_hear K.kind self.old.resting.held self.old.notes bytes.now) self.old.notes }
     {
         let frame = self.read(bytes)?;
         self.check(frame)?;
@@ -124,15 +124,15 @@ impl<K: Kind> Listening<K> {
 
     // The boxes of the company that were not heard.
     fn unheard(self) -> BoxSet
-        ensures { result ≡ unheard self.resting.held self.notes }
+        ensures { result ≡ unheard_boxes self.resting.held self.notes }
     {
         BoxSet::all_below(self.resting.held.n).difference(self.notes.heard)
     }
 
     // Closes the round by the frames heard; where the tally is refused the box goes on listening as it was.
-    #[tactic(auto, unfolding(crate::specs::Rounds::closing, crate::specs::Rounds::closed_with))]
+    #[tactic(auto, unfolding(crate::specs::BoxRounds::on_close, crate::specs::BoxRounds::close_with))]
     pub fn close(self) -> Result<Closed<K>, (Listening<K>, BoxFault)>
-        ensures { result_map_both outcome (λ e. e) result ≡ map_fault (λ e. (self, e)) (closing self.resting.held self.notes) }
+        ensures { result_map_both outcome (λ e. e) result ≡ map_fault (λ e. (self, e)) (on_close self.resting.held self.notes) }
     {
         let Held { t, horizon, .. } = self.resting.held;
         let known = self.notes.known;

@@ -1,15 +1,15 @@
 // A box at rest: made, read, and composing the frame of its next round.
 ghost use Rattle.std.specs.Prelude.{◌≡◌, ⊤};
 ghost use Rattle.std.specs.Result.{result_map_both};
-ghost use Rattle.numbers.specs.Numbers.{fronted, room_for};
+ghost use Rattle.base.specs.Buffers.{with_front, len_if_room};
 ghost use Rattle.frames.specs.Frames.{frame_bytes};
 ghost use Rattle.boxes.specs.Boxes.{new_box, next_round, frame_of};
-ghost use Rattle.boxes.specs.Rounds.{open_notes};
+ghost use Rattle.boxes.specs.BoxRounds.{open_notes};
 
 use super::states::{Held, Listening, Notes, Resting};
 use frames::{Frame, write_frame};
-use kinds::Kind;
-use numbers::Refusal;
+use proposals::Proposal;
+use base::Refusal;
 use sets::{BoxNumber, BoxSet, RoundNumber, is_company};
 use std::alloc::AllocError;
 
@@ -24,7 +24,7 @@ impl<K: Copy> Clone for Resting<K> {
     }
 }
 
-impl<K: Kind> Resting<K> {
+impl<K: Proposal> Resting<K> {
     // A new box of a company of n, of which t may fall, with its proposal.
     pub fn new(number: BoxNumber, n: u32, t: u32, proposal: K) -> Result<Resting<K>, Refusal>
         ensures { result_map_both (λ b. b.held) (λ e. e) result ≡ new_box number n t proposal }
@@ -106,8 +106,8 @@ impl<K: Kind> Resting<K> {
     // Writes the frame of the next round to the front of `out` and tells its length; where there is too little room, nothing
     // is touched.
     pub fn compose(self, out: &mut [u8]) -> Result<usize, Refusal>
-        ensures told { result ≡ room_for (frame_bytes K.image (frame_of self.held)) out.old }
-        ensures bytes { out.new ≡ fronted (frame_bytes K.image (frame_of self.held)) out.old }
+        ensures answer { result ≡ len_if_room (frame_bytes K.kind (frame_of self.held)) out.old }
+        ensures bytes { out.new ≡ with_front (frame_bytes K.kind (frame_of self.held)) out.old }
     {
         write_frame(
             Frame {

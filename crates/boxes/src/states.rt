@@ -1,6 +1,6 @@
 // The states of a box, as types: at rest, listening, and what closing a round leaves. What every box keeps stands in its type.
 ghost use Rattle.std.specs.Prelude.{◌≡◌, ◌+◌, ◌^◌, ◌<◌, ◌≤◌, true, false};
-ghost use Rattle.sets.specs.Tests.{count};
+ghost use Rattle.base.specs.Counts.{count};
 ghost use Rattle.sets.specs.Masks.{member};
 
 use sets::{BoxNumber, BoxSet, RoundNumber};

@@ -1,15 +1,16 @@
 // Frames, read and written.
 // What is written goes into arrays that are lent, since the library has no heap, and the byte behind is looked at.
 use frames::{Field, Frame, HexBytes, read_frame, write_frame};
-use kinds::{Call, Kind, Piece};
-use numbers::{Refusal, read_number};
+use proposals::{Call, Proposal, Piece};
+use base::Refusal;
+use numbers::read_number;
 use sets::{BoxNumber, BoxSet, RoundNumber};
 use std::fmt::Debug;
 use std::process::Abort;
 use std::test::Fail;
 
 // The bytes hold the frame: they read as it, and it is written as them, with the byte behind left as it was.
-fn holds<K: Kind + PartialEq + Debug>(
+fn holds<K: Proposal + PartialEq + Debug>(
     rt: &impl Abort,
     bytes: &[u8],
     frame: Frame<K>,
@@ -27,7 +28,7 @@ fn holds<K: Kind + PartialEq + Debug>(
     Ok(())
 }
 
-fn refuses<K: Kind>(
+fn refuses<K: Proposal>(
     rt: &impl Abort,
     bytes: &[u8],
     refusal: Refusal,

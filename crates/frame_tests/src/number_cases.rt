@@ -1,6 +1,7 @@
 // Numbers, read and written, and the refusals.
 // What is written goes into arrays that are lent, since the library has no heap, and the byte behind is looked at.
-use numbers::{Decoded, NumberFault, Refusal, read_number, write_number};
+use base::Refusal;
+use numbers::{Decoded, NumberFault, read_number, write_number};
 use std::process::Abort;
 use std::test::Fail;
 

@@ -1,2 +1,2 @@
-pub mod Whole
-pub mod Trips
+pub mod FrameRoundTrip
+pub mod ProposalReading

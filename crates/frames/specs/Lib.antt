@@ -1,5 +1,5 @@
-pub mod Faults
+pub mod ByteTexts
+pub mod FrameExamples
+pub mod FrameFaults
+pub mod FrameLaws
 pub mod Frames
-pub mod Theorems
-pub mod Examples
-pub mod Texts

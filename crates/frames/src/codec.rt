@@ -1,19 +1,20 @@
 // A frame is round, sender, missing set and the image of the estimate, in this order, for any kind of proposal.
 ghost use Rattle.std.specs.Prelude.{◌≡◌};
-ghost use Rattle.numbers.specs.Numbers.{fronted, room_for};
-ghost use Rattle.frames.specs.Faults.{read_field};
+ghost use Rattle.base.specs.Buffers.{with_front, len_if_room};
+ghost use Rattle.frames.specs.FrameFaults.{read_field};
 ghost use Rattle.frames.specs.Frames.{frame_numbers, frame_bytes, read_head, read_proposal, read_frame};
 
 use super::fault::{Field, FieldFault, FrameFault};
 use super::frame::Frame;
 use arrayvec::ArrayVec;
-use kinds::Kind;
-use numbers::{Decoded, Refusal, read_number, write_numbers};
+use proposals::Proposal;
+use base::Refusal;
+use numbers::{Decoded, read_number, write_numbers};
 use sets::{BoxNumber, BoxSet, RoundNumber};
 
 // The numbers of a frame: three, and those of the image, at most four.
-fn frame_numbers<K: Kind>(frame: Frame<K>) -> ArrayVec<u32, 7>
-    ensures { result.items ≡ frame_numbers K.image frame }
+fn frame_numbers<K: Proposal>(frame: Frame<K>) -> ArrayVec<u32, 7>
+    ensures { result.items ≡ frame_numbers K.kind frame }
 {
     let mut numbers = ArrayVec::new();
     numbers.push(frame.round.0);
@@ -26,9 +27,9 @@ fn frame_numbers<K: Kind>(frame: Frame<K>) -> ArrayVec<u32, 7>
 }
 
 // Writes the frame to the front of `out` and tells its length; where there is too little room, nothing is touched.
-pub fn write_frame<K: Kind>(frame: Frame<K>, out: &mut [u8]) -> Result<usize, Refusal>
-    ensures told { result ≡ room_for (frame_bytes K.image frame) out.old }
-    ensures bytes { out.new ≡ fronted (frame_bytes K.image frame) out.old }
+pub fn write_frame<K: Proposal>(frame: Frame<K>, out: &mut [u8]) -> Result<usize, Refusal>
+    ensures answer { result ≡ len_if_room (frame_bytes K.kind frame) out.old }
+    ensures bytes { out.new ≡ with_front (frame_bytes K.kind frame) out.old }
 {
     write_numbers(&frame_numbers(frame), out)
 }
@@ -66,9 +67,9 @@ fn read_head(bytes: &[u8]) -> Result<Head, FrameFault>
 }
 
 // The proposal whose image begins at a place, and the place behind it; the two go beside each other as in `read_field`.
-#[tactic(auto, using(crate::proofs::Whole::reading))]
-pub fn read_proposal<K: Kind>(bytes: &[u8], at: usize) -> Result<(K, usize), FrameFault>
-    ensures { result ≡ read_proposal K.SIZE K.named bytes.now at }
+#[tactic(auto, using(crate::proofs::ProposalReading::reading))]
+pub fn read_proposal<K: Proposal>(bytes: &[u8], at: usize) -> Result<(K, usize), FrameFault>
+    ensures { result ≡ read_proposal K.kind bytes.now at }
 {
     let mut image = ArrayVec::<u32, 4>::new();
     let mut next = at;
@@ -82,8 +83,8 @@ pub fn read_proposal<K: Kind>(bytes: &[u8], at: usize) -> Result<(K, usize), Fra
 }
 
 // The frame that the bytes hold, all of them.
-pub fn read_frame<K: Kind>(bytes: &[u8]) -> Result<Frame<K>, FrameFault>
-    ensures { result ≡ read_frame K.SIZE K.named bytes.now }
+pub fn read_frame<K: Proposal>(bytes: &[u8]) -> Result<Frame<K>, FrameFault>
+    ensures { result ≡ read_frame K.kind bytes.now }
 {
     let Head {
         round,

@@ -1,9 +1,11 @@
 // Faults of a frame: the fault of a number comes up inside them, with the field in which it was met.
 ghost use Rattle.std.specs.Prelude.{◌≡◌, Some};
 ghost use Rattle.frames.specs.declared.fault.FrameFault.TheVariants.{Number};
-ghost use Rattle.frames.specs.Faults.{field_word, refusal_of, field_of, place_of, fault_text};
+ghost use Rattle.frames.specs.FrameFaults.{field_word, refusal_of, field_of, place_of, fault_text};
 
-use numbers::{NumberFault, Refusal};
+use base::Refusal;
+
+use numbers::NumberFault;
 use std::error::Error;
 use std::fmt;
 

@@ -1,6 +1,6 @@
 // Bytes as text, for service.
 ghost use Rattle.std.specs.Prelude.{Some};
-ghost use Rattle.frames.specs.Texts.{hex_text};
+ghost use Rattle.frames.specs.ByteTexts.{hex_text};
 
 use std::fmt;
 

@@ -5,10 +5,10 @@ mod codec;
 mod fault;
 mod frame;
 mod hex;
-mod theorems;
+mod laws;
 
 pub use codec::{read_frame, read_proposal, write_frame};
 pub use fault::{Field, FieldFault, FrameFault};
 pub use frame::{Frame, LONGEST_FRAME};
 pub use hex::HexBytes;
-pub use theorems::{examples_stand, frames_stand};
+pub use laws::{examples_laws, frames_laws};

@@ -1,4 +1,4 @@
 pub mod Groups
-pub mod Laid
-pub mod Steps
-pub mod Trips
+pub mod NumberRoundTrip
+pub mod ReadingStep
+pub mod SeveralWritten

@@ -1,3 +1,2 @@
-pub mod Refusals
+pub mod NumberLaws
 pub mod Numbers
-pub mod Theorems

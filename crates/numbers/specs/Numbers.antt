@@ -1,32 +1,25 @@
 -- How a number stands in bytes: in groups of seven bits, the highest group first, and every byte but the last with its top bit set. Assumes nothing.
-use Rattle.std.specs.Prelude.{ℕ, ◌+◌, ◌/◌, ◌%◌, ◌^◌, Bool, cond, ◌&&◌, List, [], ◌∷◌, ◌++◌, map, length, take, drop, Ok, Err, codes, decimal, Result, ◌==◌, nat_le, nat_lt, slice_index}
+use Rattle.std.specs.Prelude.{ℕ, ◌+◌, ◌/◌, ◌%◌, ◌^◌, Bool, if◌then◌else◌, ◌&&◌, List, [], ◌∷◌, ◌++◌, map, length, take, drop, Ok, Err, codes, decimal, Result, ◌==◌, nat_le, nat_lt, slice_index}
 use Rattle.std.specs.Int.Digits.{digits_of, number_from_digits}
 use Rattle.std.specs.List.{flat_map, prefix_len}
-use Rattle.numbers.specs.declared.refusal.Refusal.{Refusal}
-use Rattle.numbers.specs.declared.refusal.Refusal.TheVariants.{Short, Wide, Padded, Narrow}
+use Rattle.base.specs.declared.refusal.Refusal.{Refusal}
+use Rattle.base.specs.declared.refusal.Refusal.TheVariants.{Short, Wide, Padded}
 use Rattle.numbers.specs.declared.codec.NumberFault.{NumberFault}
 use Rattle.numbers.specs.declared.codec.Decoded.{Decoded}
-use Rattle.numbers.specs.Refusals.{refusal_text}
+use Rattle.base.specs.Refusals.{refusal_text}
+use Rattle.base.specs.Limits.{number_limit}
 
 -- the groups of h, the highest first, each with the top bit set
-abbrev pub marked : ℕ → List ℕ
-marked h = map (λ d. 128 + d) (digits_of 128 h)
+abbrev pub marked_groups : ℕ → List ℕ
+marked_groups h = map (λ d. 128 + d) (digits_of 128 h)
 
 -- the bytes of a number
-unfoldable pub written : ℕ → List ℕ
-written n = marked (n / 128) ++ (n % 128 ∷ [])
+unfoldable pub number_bytes : ℕ → List ℕ
+number_bytes n = marked_groups (n / 128) ++ (n % 128 ∷ [])
 
 -- the bytes of several numbers, one after another
-unfoldable pub written_all : List ℕ → List ℕ
-written_all ns = flat_map written ns
-
--- what a slice holds once xs was to be written at its front: xs and what stood behind it, or what it held where that is too short
-abbrev pub fronted : List ℕ → List ℕ → List ℕ
-fronted xs out = cond (nat_le (length xs) (length out)) (xs ++ drop (length xs) out) out
-
--- the answer to that: how many bytes xs has, or that they are too many
-abbrev pub room_for : List ℕ → List ℕ → Result ℕ Refusal
-room_for xs out = cond (nat_le (length xs) (length out)) (Ok (length xs)) (Err Narrow)
+unfoldable pub numbers_bytes : List ℕ → List ℕ
+numbers_bytes ns = flat_map number_bytes ns
 
 -- a byte with its top bit set: the number goes on behind it
 abbrev pub goes_on : ℕ → Bool
@@ -47,12 +40,8 @@ refuse e place = Err (record { refusal = e; place = place })
 -- all else, even where the bytes end behind it; then an end before the last group; then five groups that exceed 2^32 - 1
 unfoldable pub read_groups : ℕ → List ℕ → Result Decoded NumberFault
 read_groups place bs =
-    cond (nat_le 5 (prefix_len goes_on bs)) (refuse Wide place)
-    (cond (prefix_len goes_on bs == length bs) (refuse Short place)
-    (cond (nat_lt (value_of (take (prefix_len goes_on bs + 1) bs)) (2 ^ 32))
-    (Ok (record { value = value_of (take (prefix_len goes_on bs + 1) bs); next = place + (prefix_len goes_on bs + 1) }))
-    (refuse Wide place)))
+    if nat_le 5 (prefix_len goes_on bs) then refuse Wide place else (if prefix_len goes_on bs == length bs then refuse Short place else (if nat_lt (value_of (take (prefix_len goes_on bs + 1) bs)) number_limit then Ok (record { value = value_of (take (prefix_len goes_on bs + 1) bs); next = place + (prefix_len goes_on bs + 1) }) else refuse Wide place))
 
 -- the number that begins at a place of the bytes. A first byte 80 (hex), an empty group, is refused first
 abbrev pub read_number : List ℕ → ℕ → Result Decoded NumberFault
-read_number bytes place = cond (nat_lt place (length bytes) && slice_index bytes place == 128) (refuse Padded place) (read_groups place (drop place bytes))
+read_number bytes place = if nat_lt place (length bytes) && slice_index bytes place == 128 then refuse Padded place else (read_groups place (drop place bytes))

@@ -1,8 +1,9 @@
 // Numbers in groups of seven bits, the highest group first, every byte but the last with its top bit set.
 ghost use Rattle.std.specs.Prelude.{◌≡◌, length, drop, Some, nat_le};
-ghost use Rattle.numbers.specs.Numbers.{written, written_all, fronted, room_for, fault_text, refuse, read_groups, read_number};
+ghost use Rattle.numbers.specs.Numbers.{number_bytes, numbers_bytes, fault_text, refuse, read_groups, read_number};
+ghost use Rattle.base.specs.Buffers.{with_front, len_if_room};
 
-use super::refusal::Refusal;
+use base::Refusal;
 use std::error::Error;
 use std::fmt;
 
@@ -33,7 +34,7 @@ pub struct Decoded {
 
 // How many bytes the number takes. No `From` leads from the logarithm's type to `usize`, hence `as`.
 pub fn number_len(n: u32) -> usize
-    ensures { result ≡ length (written n) }
+    ensures { result ≡ length (number_bytes n) }
 {
     n.max(1).ilog(128) as usize + 1
 }
@@ -43,8 +44,8 @@ pub fn number_len(n: u32) -> usize
 // the low group, since nothing is to fail there. The places are a range: of what `iter_mut` lent, a proof would know the length alone.
 #[tactic(auto, using(crate::proofs::Groups::writes))]
 pub fn write_number(n: u32, out: &mut [u8]) -> Result<usize, Refusal>
-    ensures told { result ≡ room_for (written n) out.old }
-    ensures bytes { out.new ≡ fronted (written n) out.old }
+    ensures answer { result ≡ len_if_room (number_bytes n) out.old }
+    ensures bytes { out.new ≡ with_front (number_bytes n) out.old }
 {
     let len = number_len(n);
     if out.len() < len {
@@ -61,17 +62,17 @@ pub fn write_number(n: u32, out: &mut [u8]) -> Result<usize, Refusal>
 
 // Whether the bytes of the numbers are no more than the room.
 fn fit(numbers: &[u32], room: usize) -> bool
-    ensures { result ≡ nat_le (length (written_all numbers.now)) room }
+    ensures { result ≡ nat_le (length (numbers_bytes numbers.now)) room }
 {
     numbers.iter().copied().map(number_len).sum::<usize>() <= room
 }
 
 // Writes several numbers, one after another, as `write_number` does one. The place is kept beside: a closure that `try_fold` calls would
 // change the bytes that it captures, and nothing would be known of them from one call to the next.
-#[tactic(auto, using(crate::proofs::Laid::lays))]
+#[tactic(auto, using(crate::proofs::SeveralWritten::lays))]
 pub fn write_numbers(numbers: &[u32], out: &mut [u8]) -> Result<usize, Refusal>
-    ensures told { result ≡ room_for (written_all numbers.now) out.old }
-    ensures bytes { out.new ≡ fronted (written_all numbers.now) out.old }
+    ensures answer { result ≡ len_if_room (numbers_bytes numbers.now) out.old }
+    ensures bytes { out.new ≡ with_front (numbers_bytes numbers.now) out.old }
 {
     if !fit(numbers, out.len()) {
         return Err(Refusal::Narrow);

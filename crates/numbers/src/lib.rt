@@ -2,9 +2,7 @@
 #![tactic(auto)]
 
 mod codec;
-mod refusal;
-mod theorems;
+mod laws;
 
 pub use codec::{Decoded, NumberFault, number_len, read_number, write_number, write_numbers};
-pub use refusal::Refusal;
-pub use theorems::numbers_stand;
+pub use laws::numbers_laws;

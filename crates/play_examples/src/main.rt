@@ -2,7 +2,7 @@
 // NAME.report holds.
 #![tactic(auto)]
 
-use plays::write_answer;
+use script_play::write_answer;
 use reports::LONGEST_REPORT;
 use std::{env, fs, io};
 

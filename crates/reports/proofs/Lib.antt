@@ -1,2 +1,2 @@
-pub mod Lines
-pub mod Reporting
+pub mod LineLengths
+pub mod ReportRefusals

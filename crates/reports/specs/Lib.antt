@@ -1,2 +1,2 @@
+pub mod ReportLaws
 pub mod Reports
-pub mod Theorems

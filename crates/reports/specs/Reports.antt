@@ -2,52 +2,54 @@
 use Rattle.std.specs.Prelude.{ℕ, not, List, [], ◌∷◌, ◌++◌, length, drop, Ok, Err, codes, decimal, Result, nat_lt}
 use Rattle.std.specs.List.{flat_map, enumerate_from}
 use Rattle.std.specs.Result.{result_map_both}
-use Rattle.numbers.specs.declared.refusal.Refusal.{Refusal}
-use Rattle.numbers.specs.declared.refusal.Refusal.TheVariants as refusal
-use Rattle.numbers.specs.Refusals.{number_of, unless}
-use Rattle.rows.specs.declared.place.Standing.{Standing}
-use Rattle.rows.specs.declared.place.Standing.TheVariants as standing
-use Rattle.rows.specs.Places.{Stand, standing_of, standing_word}
-use Rattle.rows.specs.Calls.{State, bad_row, over}
+use Rattle.base.specs.declared.refusal.Refusal.{Refusal}
+use Rattle.base.specs.declared.refusal.Refusal.TheVariants as refusal
+use Rattle.base.specs.Refusals.{number_of, unless}
+use Rattle.machine.specs.declared.place.Standing.{Standing}
+use Rattle.machine.specs.declared.place.Standing.TheVariants as standing
+use Rattle.machine.specs.Places.{PlaceState, standing_of, standing_word}
+use Rattle.machine.specs.State.{State}
+use Rattle.machine.specs.RowCheck.{bad_row, is_over}
+use Rattle.proposals.specs.Kinds.{Kind}
 
 -- each number in decimal, with a space before it
-unfoldable pub spaced : List ℕ → List ℕ
-spaced numbers = flat_map (λ n. codes " " ++ decimal n) numbers
+unfoldable pub spaced_numbers : List ℕ → List ℕ
+spaced_numbers numbers = flat_map (λ n. codes " " ++ decimal n) numbers
 
 -- what is written where so many bytes stand: the text at their front, with what stood behind it, or nothing where it was refused
-abbrev pub laid : List ℕ → Result (List ℕ) Refusal → List ℕ
-laid out (Ok text) = text ++ drop (length text) out
-laid out (Err e) = out
+abbrev pub report_bytes : List ℕ → Result (List ℕ) Refusal → List ℕ
+report_bytes out (Ok text) = text ++ drop (length text) out
+report_bytes out (Err e) = out
 
 -- what is told of that: how many bytes the text has, or why it was refused
-abbrev pub told : Result (List ℕ) Refusal → Result ℕ Refusal
-told r = result_map_both length (λ e. e) r
+abbrev pub report_answer : Result (List ℕ) Refusal → Result ℕ Refusal
+report_answer r = result_map_both length (λ e. e) r
 
 -- the line of a refusal, with its number
 unfoldable pub refusal_line : Refusal → List ℕ
 refusal_line e = codes "refused " ++ (decimal (number_of e) ++ codes "\n")
 
-module _ {K : Type 0} (image : K → List ℕ) where
+module _ {K : Type 0} (kind : Kind K) where
   -- the numbers behind the word: the round in which a box went down; the round in which it rings, and the image of its proposal
-  abbrev pub told_numbers : Standing K → List ℕ
-  told_numbers standing.Up = []
-  told_numbers (standing.Down r) = r.0 ∷ []
-  told_numbers (standing.Rung x) = x.round.0 ∷ image x.proposal
+  abbrev pub line_numbers : Standing K → List ℕ
+  line_numbers standing.Up = []
+  line_numbers (standing.Down r) = r.0 ∷ []
+  line_numbers (standing.Rung x) = x.round.0 ∷ kind.image x.proposal
 
   -- the line of box p: its number, the word for what is told of it, and those numbers
-  unfoldable pub line : ℕ → Standing K → List ℕ
-  line p s = decimal p ++ (codes " " ++ (standing_word s ++ (spaced (told_numbers s) ++ codes "\n")))
+  unfoldable pub box_line : ℕ → Standing K → List ℕ
+  box_line p s = decimal p ++ (codes " " ++ (standing_word s ++ (spaced_numbers (line_numbers s) ++ codes "\n")))
 
   -- the lines of all boxes in order, by what stands at their places
-  unfoldable pub report_text : List (Stand K) → List ℕ
-  report_text row = flat_map (λ e. line e.0 (standing_of e.1)) (enumerate_from 0 row)
+  unfoldable pub report_text : List (PlaceState K) → List ℕ
+  report_text row = flat_map (λ e. box_line e.0 (standing_of e.1)) (enumerate_from 0 row)
 
   -- the report of a ringing where there is room for so many bytes
-  unfoldable pub reporting : ℕ → State K → Result (List ℕ) Refusal
-  reporting room s =
+  unfoldable pub report_or_refusal : ℕ → State K → Result (List ℕ) Refusal
+  report_or_refusal room s =
       unless
       ((bad_row s, refusal.Row)
-      ∷ (not (over s), refusal.Silent)
+      ∷ (not (is_over s), refusal.Silent)
       ∷ (nat_lt room (length (report_text s.row)), refusal.Narrow)
       ∷ [])
       (report_text s.row)

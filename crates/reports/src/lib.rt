@@ -3,7 +3,7 @@
 
 mod report;
 mod text;
-mod theorems;
+mod laws;
 
 pub use report::{LONGEST_REFUSAL, LONGEST_REPORT, write_refusal, write_report};
-pub use theorems::reports_stand;
+pub use laws::reports_laws;

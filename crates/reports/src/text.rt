@@ -1,15 +1,15 @@
 // The bytes of a report and of a refusal's line, as they are gathered. Below 2^32, a number has ten digits at most.
 ghost use Rattle.std.specs.Prelude.{◌≡◌, ◌+◌, ◌≤◌, ◌++◌, length, map, codes, decimal};
-ghost use Rattle.numbers.specs.Numbers.{fronted, room_for};
-ghost use Rattle.sets.specs.Companies.{most_company};
-ghost use Rattle.rows.specs.Places.{shown};
-ghost use Rattle.reports.specs.Reports.{spaced, told_numbers, line, report_text, refusal_line};
+ghost use Rattle.base.specs.Buffers.{with_front, len_if_room};
+ghost use Rattle.base.specs.Limits.{most_company};
+ghost use Rattle.machine.specs.Places.{place_state};
+ghost use Rattle.reports.specs.Reports.{spaced_numbers, line_numbers, box_line, report_text, refusal_line};
 
 use arrayvec::ArrayVec;
 use itoa::Buffer;
-use kinds::Kind;
-use numbers::Refusal;
-use rows::{Place, Standing};
+use proposals::Proposal;
+use base::Refusal;
+use machine::{Place, Standing};
 use sets::{BoxNumber, MOST_COMPANY};
 
 // Room for a line: number, word, round and four numbers of an image, a space before each but the first, and the end.
@@ -32,10 +32,10 @@ fn push_spaced<const N: usize>(text: &mut ArrayVec<u8, N>, n: u32)
 }
 
 // Appends the numbers of the image.
-#[tactic(auto, using(crate::proofs::Lines::tells))]
-fn push_image<K: Kind, const N: usize>(text: &mut ArrayVec<u8, N>, proposal: K)
+#[tactic(auto, using(crate::proofs::LineLengths::tells))]
+fn push_image<K: Proposal, const N: usize>(text: &mut ArrayVec<u8, N>, proposal: K)
     requires { length text.old.items + 44 ≤ N }
-    ensures items { text.new.items ≡ text.old.items ++ spaced (K.image proposal) }
+    ensures items { text.new.items ≡ text.old.items ++ spaced_numbers (K.kind proposal) }
     ensures len { length text.new.items ≤ length text.old.items + 44 }
 {
     for i in 0..K::SIZE {
@@ -44,10 +44,10 @@ fn push_image<K: Kind, const N: usize>(text: &mut ArrayVec<u8, N>, proposal: K)
 }
 
 // Appends the numbers that are told behind the word.
-#[tactic(auto, using(crate::proofs::Lines::tells))]
-fn push_told<K: Kind, const N: usize>(text: &mut ArrayVec<u8, N>, standing: Standing<K>)
+#[tactic(auto, using(crate::proofs::LineLengths::tells))]
+fn push_told<K: Proposal, const N: usize>(text: &mut ArrayVec<u8, N>, standing: Standing<K>)
     requires { length text.old.items + 55 ≤ N }
-    ensures items { text.new.items ≡ text.old.items ++ spaced (told_numbers K.image standing) }
+    ensures items { text.new.items ≡ text.old.items ++ spaced_numbers (line_numbers K.kind standing) }
     ensures len { length text.new.items ≤ length text.old.items + 55 }
 {
     match standing {
@@ -61,9 +61,9 @@ fn push_told<K: Kind, const N: usize>(text: &mut ArrayVec<u8, N>, standing: Stan
 }
 
 // The line of box p.
-#[tactic(auto, unfolding(crate::specs::Reports::line))]
-fn line<K: Kind>(p: BoxNumber, standing: Standing<K>) -> ArrayVec<u8, LINE_ROOM>
-    ensures { result.items ≡ line K.image p.0 standing }
+#[tactic(auto, unfolding(crate::specs::Reports::box_line))]
+fn line<K: Proposal>(p: BoxNumber, standing: Standing<K>) -> ArrayVec<u8, LINE_ROOM>
+    ensures { result.items ≡ box_line K.kind p.0 standing }
 {
     let mut line = ArrayVec::new();
     line.try_extend_from_slice(Buffer::new().format(p.0).as_bytes())
@@ -77,10 +77,10 @@ fn line<K: Kind>(p: BoxNumber, standing: Standing<K>) -> ArrayVec<u8, LINE_ROOM>
 }
 
 // The lines of all places of a row.
-#[tactic(auto, using(crate::proofs::Lines::tells))]
-pub(crate) fn report_text<K: Kind>(row: &[Place<K>]) -> ArrayVec<u8, REPORT_ROOM>
+#[tactic(auto, using(crate::proofs::LineLengths::tells))]
+pub(crate) fn report_text<K: Proposal>(row: &[Place<K>]) -> ArrayVec<u8, REPORT_ROOM>
     requires { length row.now ≤ most_company }
-    ensures { result.items ≡ report_text K.image (map shown row.now) }
+    ensures { result.items ≡ report_text K.kind (map place_state row.now) }
 {
     let mut text = ArrayVec::new();
     for (p, place) in row.iter().enumerate() {
@@ -105,8 +105,8 @@ pub(crate) fn refusal_text(refusal: Refusal) -> ArrayVec<u8, REFUSAL_ROOM>
 
 // Puts the text at the front of `out` and tells its length; where there is too little room, nothing is touched.
 pub(crate) fn put(text: &[u8], out: &mut [u8]) -> Result<usize, Refusal>
-    ensures told { result ≡ room_for text.now out.old }
-    ensures bytes { out.new ≡ fronted text.now out.old }
+    ensures answer { result ≡ len_if_room text.now out.old }
+    ensures bytes { out.new ≡ with_front text.now out.old }
 {
     let len = text.len();
     if out.len() < len {

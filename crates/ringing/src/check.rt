@@ -1,16 +1,17 @@
 // What is checked before a call: the row, before each; and what a fall and a round ask besides.
 ghost use Rattle.std.specs.Prelude.{◌≡◌, not, ◌||◌, ◌&&◌, nat_lt, []};
 ghost use Rattle.sets.specs.Masks.{member, set_of};
-ghost use Rattle.wire.specs.Meaning.{falling, answer};
-ghost use Rattle.rows.specs.Places.{shown};
-ghost use Rattle.rows.specs.Calls.{is_gone};
+ghost use Rattle.wire.specs.WireState.{on_fall as wire_on_fall};
+ghost use Rattle.base.specs.Results.{answer};
+ghost use Rattle.machine.specs.Places.{place_state};
+ghost use Rattle.machine.specs.State.{is_gone};
 
 use super::ringing::Ringing;
 use boxes::Resting;
 use frames::LONGEST_FRAME;
-use kinds::Kind;
-use numbers::Refusal;
-use rows::{Place, is_over};
+use proposals::Proposal;
+use base::Refusal;
+use machine::{Place, is_over};
 use sets::{BoxNumber, BoxSet, RoundNumber};
 use wire::Wire;
 
@@ -30,9 +31,9 @@ pub(crate) fn gone<W: Wire>(wire: &W) -> BoxSet
 
 // Whether the wire lets box q fall with this lost set, or why not. Asked before it is told, since a fall cannot be taken back, and how
 // many have fallen counts after this.
-#[tactic(auto, unfolding(wire::specs::Meaning::falling))]
-pub(crate) fn check_fall<W: Wire>(wire: &W, q: BoxNumber, lost: BoxSet) -> Result<(), Refusal>
-    ensures { result ≡ answer (falling q.0 lost (W.meaning wire.now)) }
+#[tactic(auto, unfolding(wire::specs::WireState::on_fall))]
+pub(crate) fn check_wire_fall<W: Wire>(wire: &W, q: BoxNumber, lost: BoxSet) -> Result<(), Refusal>
+    ensures { result ≡ answer (wire_on_fall q.0 lost (W.meaning wire.now)) }
 {
     let n = wire.n();
     if q.0 >= n {
@@ -48,13 +49,15 @@ pub(crate) fn check_fall<W: Wire>(wire: &W, q: BoxNumber, lost: BoxSet) -> Resul
 }
 
 impl<W: Wire> Ringing<W> {
-    ghost use Rattle.rows.specs.Calls as rows;
-    ghost use Rattle.rows.specs.Calls.{is_other, misplaced, row_checked, telling, playing};
-    ghost use Rattle.ringing.specs.States.{state};
+    ghost use Rattle.machine.specs.Calls as rows;
+    ghost use Rattle.machine.specs.RowCheck.{is_other, is_misplaced, row_verdict};
+    ghost use Rattle.machine.specs.FallCall.{on_fall};
+    ghost use Rattle.machine.specs.RoundCall.{on_round};
+    ghost use Rattle.ringing.specs.RingingStates.{state_of};
 
     // Whether the box at rest is the one that this ringing has at place p.
-    fn is_own<K: Kind>(&self, p: BoxNumber, b: Resting<K>) -> bool
-        ensures { result ≡ not (is_other (state (W.meaning self.now.wire) self.now.t self.now.closed []) p.0 b.held) }
+    fn is_own<K: Proposal>(&self, p: BoxNumber, b: Resting<K>) -> bool
+        ensures { result ≡ not (is_other (state_of self.now []) p.0 b.held) }
     {
         b.number() == p
             && b.n() == self.wire.n()
@@ -64,8 +67,8 @@ impl<W: Wire> Ringing<W> {
     }
 
     // Whether this may stand at place p.
-    fn may_stand<K: Kind>(&self, p: BoxNumber, place: Place<K>) -> bool
-        ensures { result ≡ not (misplaced (state (W.meaning self.now.wire) self.now.t self.now.closed []) p.0 (shown place)) }
+    fn may_stand<K: Proposal>(&self, p: BoxNumber, place: Place<K>) -> bool
+        ensures { result ≡ not (is_misplaced (state_of self.now []) p.0 (place_state place)) }
     {
         let is_up = self.wire.up().contains(p);
         match place {
@@ -78,8 +81,8 @@ impl<W: Wire> Ringing<W> {
     }
 
     // Whether the row is this ringing's, or why not.
-    pub(crate) fn check_row<K: Kind>(&self, row: &[Place<K>]) -> Result<(), Refusal>
-        ensures { result ≡ row_checked (state (W.meaning self.now.wire) self.now.t self.now.closed row.now) }
+    pub(crate) fn check_row<K: Proposal>(&self, row: &[Place<K>]) -> Result<(), Refusal>
+        ensures { result ≡ row_verdict (state_of self.now row.now) }
     {
         if row.len() != self.wire.n() as usize || gone(&self.wire).count() > self.t {
             return Err(Refusal::Row);
@@ -93,19 +96,19 @@ impl<W: Wire> Ringing<W> {
     }
 
     // Whether it may be told that box q falls with this lost set, or why not.
-    pub(crate) fn check_telling<K: Kind>(
+    pub(crate) fn check_fall<K: Proposal>(
         &self,
         row: &[Place<K>],
         q: BoxNumber,
         lost: BoxSet,
     ) -> Result<(), Refusal>
-        ensures { result ≡ rows.answer (telling q lost (state (W.meaning self.now.wire) self.now.t self.now.closed row.now)) }
+        ensures { result ≡ rows.answer (on_fall q lost (state_of self.now row.now)) }
     {
         self.check_row(row)?;
         if is_over(row) {
             return Err(Refusal::Over);
         }
-        check_fall(&self.wire, q, lost)?;
+        check_wire_fall(&self.wire, q, lost)?;
         if gone(&self.wire).count() >= self.t {
             return Err(Refusal::Spent);
         }
@@ -113,12 +116,12 @@ impl<W: Wire> Ringing<W> {
     }
 
     // Whether a round may be played with so many line bytes, or why not.
-    pub(crate) fn check_playing<K: Kind>(
+    pub(crate) fn check_round<K: Proposal>(
         &self,
         row: &[Place<K>],
         room: usize,
     ) -> Result<(), Refusal>
-        ensures { result ≡ rows.answer (playing K.leads K.image room (state (W.meaning self.now.wire) self.now.t self.now.closed row.now)) }
+        ensures { result ≡ rows.answer (on_round K.kind room (state_of self.now row.now)) }
     {
         self.check_row(row)?;
         if room < LONGEST_FRAME {

@@ -1,27 +1,28 @@
 // The making of a ringing: its checks, and the new boxes in the row.
 ghost use Rattle.std.specs.Prelude.{◌≡◌, ◌<◌, map, length, set, OnOk, OnErr, true};
-ghost use Rattle.sets.specs.Companies.{company};
-ghost use Rattle.rows.specs.Places.{shown};
-ghost use Rattle.rows.specs.Calls.{making, first_row, answer};
+ghost use Rattle.sets.specs.Companies.{is_company};
+ghost use Rattle.machine.specs.Places.{place_state};
+ghost use Rattle.machine.specs.MakeCall.{on_make, first_row};
+ghost use Rattle.base.specs.Results.{answer};
 
 use super::check::gone;
 use boxes::Resting;
-use kinds::Kind;
-use numbers::Refusal;
-use rows::Place;
+use proposals::Proposal;
+use base::Refusal;
+use machine::Place;
 use sets::{BoxNumber, BoxSet, is_company};
 use wire::Wire;
 
 // Whether a ringing may be made, for so many places and proposals, or why not.
-#[tactic(auto, unfolding(rows::specs::Calls::making))]
-fn check_making<W: Wire, K: Kind>(
+#[tactic(auto, unfolding(machine::specs::MakeCall::on_make))]
+fn check_make<W: Wire, K: Proposal>(
     n: u32,
     t: u32,
     wire: &W,
     row: &[Place<K>],
     proposals: &[K],
 ) -> Result<(), Refusal>
-    ensures { result ≡ answer (making n t (W.meaning wire.now) (length row.now) proposals.now) }
+    ensures { result ≡ answer (on_make n t (W.meaning wire.now) (length row.now) proposals.now) }
 {
     if !is_company(n, t) {
         return Err(Refusal::Company);
@@ -36,7 +37,7 @@ fn check_making<W: Wire, K: Kind>(
 }
 
 // By itself, since the prover bounds the place in memory of an element of unknown size only in a function that does no more.
-pub(crate) fn put<K: Kind>(row: &mut [Place<K>], p: usize, place: Place<K>)
+pub(crate) fn put<K: Proposal>(row: &mut [Place<K>], p: usize, place: Place<K>)
     requires { p < length row.old }
     ensures { row.new ≡ set row.old p place }
 {
@@ -44,19 +45,19 @@ pub(crate) fn put<K: Kind>(row: &mut [Place<K>], p: usize, place: Place<K>)
 }
 
 // Sets up a new box with its proposal in each place, if a ringing may be made.
-pub(crate) fn set_up<W: Wire, K: Kind>(
+pub(crate) fn set_up<W: Wire, K: Proposal>(
     n: u32,
     t: u32,
     wire: &W,
     row: &mut [Place<K>],
     proposals: &[K],
 ) -> Result<(), Refusal>
-    ensures answer { result ≡ answer (making n t (W.meaning wire.now) (length row.old) proposals.now) }
-    ensures row { OnOk result (map shown row.new ≡ first_row n t proposals.now) }
+    ensures answer { result ≡ answer (on_make n t (W.meaning wire.now) (length row.old) proposals.now) }
+    ensures row { OnOk result (map place_state row.new ≡ first_row n t proposals.now) }
     ensures refused { OnErr result (row.new ≡ row.old) }
-    ensures company { OnOk result (company (W.meaning wire.now).n t ≡ true) }
+    ensures is_company { OnOk result (is_company (W.meaning wire.now).n t ≡ true) }
 {
-    check_making(n, t, wire, row, proposals)?;
+    check_make(n, t, wire, row, proposals)?;
     for (p, proposal) in proposals.iter().enumerate() {
         let resting = Resting::new(BoxNumber(p as u32), n, t, *proposal)?;
         put(row, p, Place::Resting(resting));

@@ -1,9 +1,9 @@
 // What the cases share: calls with numbers in place of box numbers and sets, and a company of four.
 use frames::LONGEST_FRAME;
-use kinds::{Kind, Piece};
-use numbers::Refusal;
+use proposals::{Proposal, Piece};
+use base::Refusal;
 use ringing::Ringing;
-use rows::{Blow, Place, Rung, Standing};
+use machine::{Blow, Place, Rung, Standing};
 use sets::{BoxNumber, BoxSet, RoundNumber};
 use std::process::Abort;
 use wire::Wire;
@@ -20,7 +20,7 @@ pub(crate) fn pieces() -> Result<[Piece; 4], Refusal> {
     ])
 }
 
-pub(crate) fn make<W: Wire + Drop, K: Kind>(
+pub(crate) fn make<W: Wire + Drop, K: Proposal>(
     n: u32,
     t: u32,
     wire: W,
@@ -42,7 +42,7 @@ pub(crate) fn of_four<W: Wire + Drop>(
 }
 
 // The lost set is written as a mask.
-pub(crate) fn falls<W: Wire, K: Kind>(
+pub(crate) fn falls<W: Wire, K: Proposal>(
     ringing: &mut Ringing<W>,
     row: &[Place<K>],
     q: u32,
@@ -52,7 +52,7 @@ pub(crate) fn falls<W: Wire, K: Kind>(
 }
 
 // A round with so many line bytes of 32, which were 0xaa; they are zero after it, and those behind are as they were.
-pub(crate) fn plays_in<W: Wire, K: Kind>(
+pub(crate) fn plays_in<W: Wire, K: Proposal>(
     rt: &impl Abort,
     ringing: &mut Ringing<W>,
     row: &mut [Place<K>],
@@ -67,7 +67,7 @@ pub(crate) fn plays_in<W: Wire, K: Kind>(
     answer
 }
 
-pub(crate) fn plays<W: Wire, K: Kind>(
+pub(crate) fn plays<W: Wire, K: Proposal>(
     rt: &impl Abort,
     ringing: &mut Ringing<W>,
     row: &mut [Place<K>],
@@ -75,7 +75,7 @@ pub(crate) fn plays<W: Wire, K: Kind>(
     plays_in(rt, ringing, row, LONGEST_FRAME)
 }
 
-pub(crate) fn asks<W: Wire, K: Kind>(
+pub(crate) fn asks<W: Wire, K: Proposal>(
     ringing: &Ringing<W>,
     row: &[Place<K>],
     p: u32,
@@ -91,6 +91,6 @@ pub(crate) fn rings<K>(round: u32, proposal: K) -> Standing<K> {
     Standing::Rung(Rung {
         round: RoundNumber(round),
         proposal,
-        blow: Blow::Rings,
+        blow: Blow::Undrawn,
     })
 }

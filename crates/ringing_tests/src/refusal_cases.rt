@@ -1,9 +1,9 @@
 // Every refusal of every call, by name, each over a board and over a tape. Where two count, the first is told.
 use super::fixtures::{EMPTY, asks, down, falls, make, of_four, pieces, plays, plays_in, rings};
-use kinds::Piece;
-use numbers::Refusal;
+use proposals::Piece;
+use base::Refusal;
 use ringing::Ringing;
-use rows::{Blow, Place, Rung, Standing};
+use machine::{Blow, Place, Rung, Standing};
 use sets::{BoxNumber, BoxSet, RoundNumber};
 use std::process::Abort;
 use std::test::Fail;
@@ -103,7 +103,7 @@ fn rung(round: u32) -> Result<Place<Piece>, Refusal> {
     Ok(Place::Rung(Rung {
         round: RoundNumber(round),
         proposal: Piece::new(10)?,
-        blow: Blow::Rings,
+        blow: Blow::Undrawn,
     }))
 }
 

@@ -1,10 +1,10 @@
 // Ringings played to the end, each over a board and over a tape.
 use super::fixtures::{EMPTY, asks, down, falls, make, of_four, plays, rings};
 use frames::LONGEST_FRAME;
-use kinds::{Call, Piece};
-use numbers::Refusal;
+use proposals::{Call, Piece};
+use base::Refusal;
 use ringing::Ringing;
-use rows::{Place, Standing};
+use machine::{Place, Standing};
 use sets::{BoxNumber, RoundNumber};
 use std::process::Abort;
 use std::test::Fail;

@@ -1,7 +1,7 @@
 -- Which boxes fall and when, and so who closes a round, who hears whom in it, and who is found missing. Assumes nothing.
-use Rattle.std.specs.Prelude.{ℕ, zero, suc, ◌-◌, max, Bool, false, cond, not, ◌&&◌, ◌||◌, Some, None, Option, ◌==◌, nat_lt}
+use Rattle.std.specs.Prelude.{ℕ, zero, suc, ◌-◌, max, Bool, false, if◌then◌else◌, not, ◌&&◌, ◌||◌, Some, None, Option, ◌==◌, nat_lt}
 use Rattle.sets.specs.declared.set.BoxSet.{BoxSet}
-use Rattle.sets.specs.Tests.{any, count}
+use Rattle.base.specs.Counts.{any, count}
 use Rattle.sets.specs.Masks.{member}
 use Rattle.rule.specs.declared.falls.Fall.{Fall}
 
@@ -14,7 +14,7 @@ abbrev pub no_falls : Falls
 no_falls q = None
 
 abbrev pub with_fall : ℕ → ℕ → BoxSet → Falls → Falls
-with_fall r p s falls q = cond (q == p) (Some (record { round = record { 0 = r }; lost = s })) (falls q)
+with_fall r p s falls q = if q == p then Some (record { round = record { 0 = r }; lost = s }) else falls q
 
 -- it fell before round r
 abbrev pub fell_before : Option Fall → ℕ → Bool
@@ -32,12 +32,12 @@ fell_unheard None r p = false
 fell_unheard (Some f) r p = f.round.0 == r && member f.lost p
 
 -- its fall, if it is of a round up to s
-abbrev pub so_far : ℕ → Option Fall → Option Fall
-so_far s fall = cond (fell_before fall (suc s)) fall None
+abbrev pub fall_so_far : ℕ → Option Fall → Option Fall
+fall_so_far s fall = if fell_before fall (suc s) then fall else None
 
 -- the falls of the rounds up to s
-abbrev pub past : ℕ → Falls → Falls
-past s falls q = so_far s (falls q)
+abbrev pub past_falls : ℕ → Falls → Falls
+past_falls s falls q = fall_so_far s (falls q)
 
 -- it fell neither before round r nor in it: the box closes the round
 abbrev pub lasts : Option Fall → ℕ → Bool

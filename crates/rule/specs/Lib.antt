@@ -1,6 +1,6 @@
 pub mod Falls
+pub mod HeldValues
 pub mod Histories
-pub mod Values
-pub mod Boxes
-pub mod Theorems
-pub mod Examples
+pub mod RuleLaws
+pub mod RuleValues
+pub mod RunExamples

@@ -3,7 +3,7 @@
 #![tactic(auto)]
 
 mod falls;
-mod theorems;
+mod laws;
 
 pub use falls::{Fall, closes, hears};
-pub use theorems::{box_follows, examples_stand, rule_stands};
+pub use laws::{box_follows_rule, examples_laws, rule_laws};

@@ -1,5 +1,5 @@
 // What is answered to scripts of pieces, written into bytes that were 0xaa, of which none behind the text is touched.
-use plays::write_answer;
+use script_play::write_answer;
 use reports::LONGEST_REPORT;
 use std::process::Abort;
 

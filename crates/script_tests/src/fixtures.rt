@@ -1,6 +1,6 @@
 // What the cases share: a script of calls.
-use kinds::{Call, Piece};
-use numbers::Refusal;
+use proposals::{Call, Piece};
+use base::Refusal;
 
 pub(crate) fn call(rank: u8, piece: u16) -> Result<Call, Refusal> {
     Call::new(rank, Piece::new(piece)?)

@@ -1,10 +1,10 @@
 // A script of calls, played over a board and over a tape, and what playing refuses.
 use super::fixtures::{CALLS, call, calls};
-use kinds::Call;
-use numbers::Refusal;
-use plays::play;
+use proposals::Call;
+use base::Refusal;
+use script_play::play;
 use reports::{LONGEST_REPORT, write_report};
-use rows::Place;
+use machine::Place;
 use scripts::read_script;
 use sets::{BoxNumber, BoxSet, RoundNumber};
 use std::process::Abort;

@@ -1,6 +1,6 @@
 // Scripts of calls, read into places, of which just those in front are touched, and on a refusal none.
 use super::fixtures::{CALLS, call, calls};
-use numbers::Refusal;
+use base::Refusal;
 use scripts::{Entry, read_script};
 use sets::{BoxNumber, BoxSet, RoundNumber};
 use std::process::Abort;

@@ -1,10 +1,10 @@
 // What is written into bytes that were 0xaa, and that no other byte is touched.
 use frames::LONGEST_FRAME;
-use kinds::Piece;
-use numbers::Refusal;
+use proposals::Piece;
+use base::Refusal;
 use reports::{LONGEST_REFUSAL, LONGEST_REPORT, write_refusal, write_report};
 use ringing::Ringing;
-use rows::Place;
+use machine::Place;
 use sets::{BoxNumber, BoxSet, RoundNumber};
 use std::process::Abort;
 use std::test::Fail;

@@ -1,7 +1,7 @@
-pub mod Several
-pub mod Heads
-pub mod Fitting
-pub mod Whole
-pub mod Trips
-pub mod Behind
-pub mod Worked
+pub mod BytesBehindFault
+pub mod EntriesFit
+pub mod HeadLimits
+pub mod ScriptRoundTrip
+pub mod ScriptSteps
+pub mod ScriptsComputed
+pub mod SeveralRead

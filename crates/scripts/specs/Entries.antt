@@ -1,7 +1,7 @@
 -- Which boxes fall by a script. Assumes nothing.
 use Rattle.std.specs.Prelude.{ℕ, ◌+◌, Bool, true, not, ◌&&◌, ◌||◌, List, [], ◌∷◌, ◌==◌, nat_le, nat_lt}
 use Rattle.std.specs.List.{list_any}
-use Rattle.sets.specs.Companies.{bad_lost}
+use Rattle.sets.specs.Companies.{is_bad_lost}
 use Rattle.scripts.specs.declared.entry.Entry.{Entry}
 
 -- one of the entries names box q
@@ -13,10 +13,10 @@ abbrev pub bad_round : ℕ → ℕ → Bool
 bad_round t r = r == 0 || nat_lt (t + 1) r
 
 -- a script of n boxes of which t may fall may have this entry
-abbrev pub fits : ℕ → ℕ → Entry → Bool
-fits n t e = not (bad_round t e.round.0) && not (nat_le n e.number.0) && not (bad_lost n e.number.0 e.lost)
+abbrev pub entry_fits : ℕ → ℕ → Entry → Bool
+entry_fits n t e = not (bad_round t e.round.0) && not (nat_le n e.number.0) && not (is_bad_lost n e.number.0 e.lost)
 
 -- and these, which name no box twice
-unfoldable pub fitting : ℕ → ℕ → List Entry → Bool
-fitting n t [] = true
-fitting n t (e ∷ es) = fits n t e && not (is_named e.number.0 es) && fitting n t es
+unfoldable pub entries_fit : ℕ → ℕ → List Entry → Bool
+entries_fit n t [] = true
+entries_fit n t (e ∷ es) = entry_fits n t e && not (is_named e.number.0 es) && entries_fit n t es

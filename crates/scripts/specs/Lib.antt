@@ -1,5 +1,5 @@
 pub mod Entries
-pub mod Scripts
-pub mod Reading
-pub mod Examples
-pub mod Theorems
+pub mod ScriptExamples
+pub mod ScriptLaws
+pub mod ScriptReading
+pub mod ScriptValues

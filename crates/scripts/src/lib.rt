@@ -4,9 +4,9 @@
 mod entry;
 mod reader;
 mod script;
-mod theorems;
+mod laws;
 
 pub use entry::Entry;
 pub use reader::read_script;
 pub use script::{MOST_FALLS, Script};
-pub use theorems::scripts_stand;
+pub use laws::scripts_laws;

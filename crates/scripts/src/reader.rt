@@ -1,17 +1,18 @@
 // Reading a script. Each number or image is judged when it is read, so the first fault met is the one told.
 ghost use Rattle.std.specs.Prelude.{◌≡◌, length, true};
 ghost use Rattle.std.specs.Result.{result_map_both};
-ghost use Rattle.sets.specs.Companies.{company};
+ghost use Rattle.sets.specs.Companies.{is_company};
 ghost use Rattle.scripts.specs.Entries.{is_named};
-ghost use Rattle.scripts.specs.Scripts.{contents};
-ghost use Rattle.scripts.specs.Reading.{number_at, read_head, several, proposal_at, entry_at, read_entries, read_script, filled};
+ghost use Rattle.scripts.specs.ScriptValues.{values_of};
+ghost use Rattle.scripts.specs.ScriptReading.{number_at, read_head, read_several, proposal_at, entry_at, read_entries, read_script, places_after};
 
 use super::entry::Entry;
 use super::script::{MOST_FALLS, Script};
 use arrayvec::ArrayVec;
 use frames::read_proposal;
-use kinds::Kind;
-use numbers::{Decoded, Refusal, read_number};
+use proposals::Proposal;
+use base::Refusal;
+use numbers::{Decoded, read_number};
 use sets::{BoxNumber, BoxSet, RoundNumber, is_company};
 
 // The number at a place, and the place behind it. Bytes and place stay two parameters, as in the reader of a frame.
@@ -30,7 +31,7 @@ struct Head {
 }
 
 // With room for so many proposals.
-#[tactic(auto, unfolding(crate::specs::Reading::read_head))]
+#[tactic(auto, unfolding(crate::specs::ScriptReading::read_head))]
 fn read_head(bytes: &[u8], places: usize) -> Result<Head, Refusal>
     ensures { result ≡ read_head places bytes.now }
 {
@@ -50,16 +51,16 @@ fn read_head(bytes: &[u8], places: usize) -> Result<Head, Refusal>
 }
 
 // The proposal at a place, and the place behind it.
-fn proposal_at<K: Kind>(bytes: &[u8], at: usize) -> Result<(K, usize), Refusal>
-    ensures { result ≡ proposal_at K.SIZE K.named bytes.now at }
+fn proposal_at<K: Proposal>(bytes: &[u8], at: usize) -> Result<(K, usize), Refusal>
+    ensures { result ≡ proposal_at K.kind bytes.now at }
 {
     read_proposal(bytes, at).map_err(|fault| fault.refusal())
 }
 
 // Judges so many proposals, and tells the place behind the last image.
-#[tactic(auto, using(crate::proofs::Several::reading))]
-fn judge_proposals<K: Kind>(bytes: &[u8], at: usize, n: u32) -> Result<usize, Refusal>
-    ensures { result ≡ result_map_both (λ x. x.1) (λ e. e) (several (λ _. proposal_at K.SIZE K.named bytes.now) n at) }
+#[tactic(auto, using(crate::proofs::SeveralRead::reading))]
+fn judge_proposals<K: Proposal>(bytes: &[u8], at: usize, n: u32) -> Result<usize, Refusal>
+    ensures { result ≡ result_map_both (λ x. x.1) (λ e. e) (read_several (λ _. proposal_at K.kind bytes.now) n at) }
 {
     let mut next = at;
     for _ in 0..n {
@@ -70,9 +71,9 @@ fn judge_proposals<K: Kind>(bytes: &[u8], at: usize, n: u32) -> Result<usize, Re
 }
 
 // Reads a proposal into each of the places, and tells the place behind the last image.
-#[tactic(auto, using(crate::proofs::Several::reading))]
-fn read_proposals<K: Kind>(bytes: &[u8], at: usize, places: &mut [K]) -> Result<usize, Refusal>
-    ensures { result_map_both (λ end. (places.new, end)) (λ e. e) result ≡ several (λ _. proposal_at K.SIZE K.named bytes.now) (length places.old) at }
+#[tactic(auto, using(crate::proofs::SeveralRead::reading))]
+fn read_proposals<K: Proposal>(bytes: &[u8], at: usize, places: &mut [K]) -> Result<usize, Refusal>
+    ensures { result_map_both (λ end. (places.new, end)) (λ e. e) result ≡ read_several (λ _. proposal_at K.kind bytes.now) (length places.old) at }
 {
     let mut next = at;
     for place in places.iter_mut() {
@@ -91,14 +92,14 @@ fn is_named(entries: &[Entry], q: BoxNumber) -> bool
 }
 
 // The entry at a place, where these stand before it.
-#[tactic(auto, unfolding(crate::specs::Reading::entry_at))]
+#[tactic(auto, unfolding(crate::specs::ScriptReading::entry_at))]
 fn read_entry(
     bytes: &[u8],
     at: usize,
     head: Head,
     before: &[Entry],
 ) -> Result<(Entry, usize), Refusal>
-    requires { company head.n head.t ≡ true }
+    requires { is_company head.n head.t ≡ true }
     ensures { result ≡ entry_at head.n head.t bytes.now before.now at }
 {
     let round = number_at(bytes, at)?;
@@ -129,13 +130,13 @@ fn read_entry(
 }
 
 // The entries, of which the count stands at a place, and the place behind them.
-#[tactic(auto, using(crate::proofs::Several::reading), unfolding(crate::specs::Reading::read_entries))]
+#[tactic(auto, using(crate::proofs::SeveralRead::reading), unfolding(crate::specs::ScriptReading::read_entries))]
 fn read_entries(
     bytes: &[u8],
     at: usize,
     head: Head,
 ) -> Result<(ArrayVec<Entry, MOST_FALLS>, usize), Refusal>
-    requires { company head.n head.t ≡ true }
+    requires { is_company head.n head.t ≡ true }
     ensures { result_map_both (λ r. (r.0.items, r.1)) (λ e. e) result ≡ read_entries head.n head.t bytes.now at }
 {
     let count = number_at(bytes, at)?;
@@ -154,9 +155,9 @@ fn read_entries(
 
 // Reads the script that all the bytes make, lays its proposals into the places from the first on, and tells the rest. A refusal touches no place, so
 // the images are judged first and the proposals laid last: a copy would be an array of an open kind, which cannot be had.
-pub fn read_script<K: Kind>(bytes: &[u8], places: &mut [K]) -> Result<Script, Refusal>
-    ensures script { result_map_both contents (λ e. e) result ≡ result_map_both (λ x. x.0) (λ e. e) (read_script K.SIZE K.named (length places.old) bytes.now) }
-    ensures places { places.new ≡ filled (read_script K.SIZE K.named (length places.old) bytes.now) places.old }
+pub fn read_script<K: Proposal>(bytes: &[u8], places: &mut [K]) -> Result<Script, Refusal>
+    ensures script { result_map_both values_of (λ e. e) result ≡ result_map_both (λ x. x.0) (λ e. e) (read_script K.kind (length places.old) bytes.now) }
+    ensures places { places.new ≡ places_after (read_script K.kind (length places.old) bytes.now) places.old }
 {
     let head = read_head(bytes, places.len())?;
     let next = judge_proposals::<K>(bytes, head.next, head.n)?;

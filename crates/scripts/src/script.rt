@@ -1,7 +1,7 @@
 // What a script holds beside the proposals.
 ghost use Rattle.std.specs.Prelude.{◌≡◌, ◌≤◌, length, true};
-ghost use Rattle.sets.specs.Companies.{company};
-ghost use Rattle.scripts.specs.Entries.{fitting};
+ghost use Rattle.sets.specs.Companies.{is_company};
+ghost use Rattle.scripts.specs.Entries.{entries_fit};
 
 use super::entry::Entry;
 use arrayvec::ArrayVec;
@@ -17,9 +17,9 @@ pub struct Script {
     pub(crate) n: u32,
     pub(crate) t: u32,
     pub(crate) entries: ArrayVec<Entry, MOST_FALLS>,
-    ghost size: { company n t ≡ true },
+    ghost size: { is_company n t ≡ true },
     ghost few: { length entries.items ≤ t },
-    ghost fitting: { fitting n t entries.items ≡ true },
+    ghost fitting: { entries_fit n t entries.items ≡ true },
 }
 
 impl Script {

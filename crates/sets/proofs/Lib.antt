@@ -1,4 +1,3 @@
-pub mod Counts
-pub mod Bits
-pub mod Texts
-pub mod Members
+pub mod BitLemmas
+pub mod MemberLemmas
+pub mod TextLemmas

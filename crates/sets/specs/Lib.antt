@@ -1,5 +1,4 @@
-pub mod Tests
-pub mod Masks
 pub mod Companies
-pub mod Theorems
-pub mod Texts
+pub mod Masks
+pub mod SetLaws
+pub mod SetTexts

@@ -1,5 +1,5 @@
 -- Masks as sets of numbers. Assumes nothing.
-use Rattle.std.specs.Prelude.{ℕ, zero, suc, ◌+◌, ◌/◌, ◌%◌, ◌^◌, Bool, cond, ◌==◌}
+use Rattle.std.specs.Prelude.{ℕ, zero, suc, ◌+◌, ◌/◌, ◌%◌, ◌^◌, Bool, if◌then◌else◌, ◌==◌}
 use Rattle.sets.specs.declared.set.BoxSet.{BoxSet}
 
 -- whether bit i of a mask is set
@@ -9,7 +9,7 @@ bit mask i = mask / 2 ^ i % 2 == 1
 -- the mask of the numbers below n that pass
 unfoldable pub mask_of : (ℕ → Bool) → ℕ → ℕ
 mask_of P zero = 0
-mask_of P (suc n) = mask_of P n + cond (P n) (2 ^ n) 0
+mask_of P (suc n) = mask_of P n + (if P n then 2 ^ n else 0)
 
 -- whether the box with this number is in the set
 abbrev pub member : BoxSet → ℕ → Bool

@@ -1,10 +1,10 @@
 // A set of boxes: bit i of the mask stands for box i. Contracts speak of members; only `from_mask` and `mask`, by which a
 // set is sent, speak of the mask itself.
 ghost use Rattle.std.specs.Prelude.{◌≡◌, false, not, ◌&&◌, ◌||◌, ◌==◌, nat_eq, nat_le, nat_lt};
-ghost use Rattle.sets.specs.Tests.{any, count};
+ghost use Rattle.base.specs.Counts.{any, count};
 ghost use Rattle.sets.specs.Masks.{member, set_of};
 
-use super::labels::BoxNumber;
+use super::box_number::BoxNumber;
 
 // How many boxes a set has room for.
 const PLACES: u32 = 32;

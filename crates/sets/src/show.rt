@@ -1,8 +1,8 @@
 // A set as text: its boxes in order, as in {2, 31}.
 ghost use Rattle.std.specs.Prelude.{Some};
-ghost use Rattle.sets.specs.Texts.{set_text};
+ghost use Rattle.sets.specs.SetTexts.{set_text};
 
-use super::labels::BoxNumber;
+use super::box_number::BoxNumber;
 use super::set::BoxSet;
 use std::fmt;
 

@@ -3,7 +3,7 @@
 #![tactic(auto)]
 
 use frames::{Frame, HexBytes, read_frame, write_frame};
-use kinds::Piece;
+use proposals::Piece;
 use std::io;
 use std::io::Read;
 

@@ -3,10 +3,10 @@
 #![tactic(auto)]
 
 use frames::LONGEST_FRAME;
-use kinds::Piece;
-use numbers::Refusal;
+use proposals::Piece;
+use base::Refusal;
 use ringing::Ringing;
-use rows::{Place, Standing};
+use machine::{Place, Standing};
 use sets::{BoxNumber, BoxSet, RoundNumber};
 use std::io;
 use wire::{Board, Tape, Wire};

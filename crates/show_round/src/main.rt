@@ -4,8 +4,8 @@
 
 use boxes::{BoxFault, Closed, Listening, Resting};
 use frames::{HexBytes, LONGEST_FRAME};
-use kinds::Piece;
-use numbers::Refusal;
+use proposals::Piece;
+use base::Refusal;
 use sets::BoxNumber;
 use std::io;
 

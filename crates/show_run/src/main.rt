@@ -4,8 +4,8 @@
 
 use boxes::{Closed, Listening, Resting};
 use frames::LONGEST_FRAME;
-use kinds::Piece;
-use numbers::Refusal;
+use proposals::Piece;
+use base::Refusal;
 use rule::{Fall, closes, hears};
 use sets::{BoxNumber, BoxSet, RoundNumber};
 use std::io;

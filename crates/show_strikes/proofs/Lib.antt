@@ -1,1 +1,1 @@
-mod Returned
+mod OrdersReturned

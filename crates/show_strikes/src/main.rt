@@ -3,16 +3,16 @@
 #![tactic(auto)]
 
 ghost use Rattle.std.specs.Prelude.{◌≡◌};
-ghost use Rattle.ringing.specs.States.{state};
-ghost use Rattle.show_strikes.specs.Returned.{IsTakenBack, returned, AreReady};
+ghost use Rattle.ringing.specs.RingingStates.{state_of};
+ghost use Rattle.show_strikes.specs.Returned.{IsTakenBack, orders_returned, AreReady};
 
 use frames::LONGEST_FRAME;
-use kinds::Piece;
-use numbers::Refusal;
-use performing::perform;
+use proposals::Piece;
+use base::Refusal;
+use call_lists::make_calls;
 use ringing::{Ringing, StrikeOrder};
-use rows::{Place, Standing};
-use runs::{Reply, Request};
+use machine::{Place, Standing};
+use promise::{Reply, Request};
 use sets::{BoxNumber, BoxSet, RoundNumber};
 use std::io;
 use wire::{Board, Tape, Wire};
@@ -173,8 +173,8 @@ fn show_answers(
 
 // Gives back an order that is still in hand, as missed. It is proved that it is taken back.
 fn give_back<W: Wire>(ringing: &Ringing<W>, row: &mut [Place<Piece>], slot: Option<StrikeOrder>)
-    requires { let s = state (W.meaning ringing.now.wire) ringing.now.t ringing.now.closed row.old in IsTakenBack s slot }
-    ensures { let s = state (W.meaning ringing.now.wire) ringing.now.t ringing.now.closed row.old in state (W.meaning ringing.now.wire) ringing.now.t ringing.now.closed row.new ≡ returned slot s }
+    requires { let s = state_of ringing.now row.old in IsTakenBack s slot }
+    ensures { let s = state_of ringing.now row.old in state_of ringing.now row.new ≡ orders_returned slot s }
 {
     match slot {
         None => (),
@@ -191,7 +191,7 @@ fn give_all_back<W: Wire>(
     row: &mut [Place<Piece>],
     orders: [Option<StrikeOrder>; 4],
 )
-    requires { AreReady (state (W.meaning ringing.now.wire) ringing.now.t ringing.now.closed row.old) orders }
+    requires { AreReady (state_of ringing.now row.old) orders }
 {
     let [first, second, third, fourth] = orders;
     give_back(ringing, row, first);
@@ -210,7 +210,7 @@ fn play<W: Wire + Drop>(rt: &impl Print, wire: W, proposals: &[Piece; 4]) -> io:
     let mut orders: [Option<StrikeOrder>; 4] = [None, None, None, None];
     let list = list();
     let mut answers = [Ok(Reply::Done); LENGTH];
-    let performed = perform(&mut ringing, &mut row, &mut orders, &list, &mut answers);
+    let performed = make_calls(&mut ringing, &mut row, &mut orders, &list, &mut answers);
     give_all_back(&ringing, &mut row, orders);
     match performed {
         Ok(()) => show_answers(rt, &list, &answers),

@@ -2,10 +2,10 @@
 use super::fixtures::{
     EMPTY, draws, falls, misses, of_four, plays, rung_in_three, rung_in_two, strikes, tells,
 };
-use kinds::Piece;
-use numbers::Refusal;
+use proposals::Piece;
+use base::Refusal;
 use ringing::Ringing;
-use rows::{Blow, Place};
+use machine::{Blow, Place};
 use sets::BoxNumber;
 use std::process::Abort;
 use std::test::Fail;
@@ -108,7 +108,7 @@ fn drawn_once<W: Wire + Drop>(rt: &impl Abort, wire: W) -> Result<(), Fail> {
         &ringing,
         &row,
         piece,
-        [Blow::Rings, Blow::Rings, Blow::Rings],
+        [Blow::Undrawn, Blow::Undrawn, Blow::Undrawn],
     );
     let order = draws(rt, &ringing, &mut row, 0, 3);
     tells(
@@ -116,7 +116,7 @@ fn drawn_once<W: Wire + Drop>(rt: &impl Abort, wire: W) -> Result<(), Fail> {
         &ringing,
         &row,
         piece,
-        [Blow::Out, Blow::Rings, Blow::Rings],
+        [Blow::Out, Blow::Undrawn, Blow::Undrawn],
     );
     draw_refuses(rt, &ringing, row, 0, Refusal::Order);
     strikes(rt, &ringing, &mut row, order);
@@ -125,7 +125,7 @@ fn drawn_once<W: Wire + Drop>(rt: &impl Abort, wire: W) -> Result<(), Fail> {
         &ringing,
         &row,
         piece,
-        [Blow::Struck, Blow::Rings, Blow::Rings],
+        [Blow::Struck, Blow::Undrawn, Blow::Undrawn],
     );
     draw_refuses(rt, &ringing, row, 0, Refusal::Order);
     let order = draws(rt, &ringing, &mut row, 3, 3);
@@ -134,7 +134,7 @@ fn drawn_once<W: Wire + Drop>(rt: &impl Abort, wire: W) -> Result<(), Fail> {
         &ringing,
         &row,
         piece,
-        [Blow::Struck, Blow::Rings, Blow::Out],
+        [Blow::Struck, Blow::Undrawn, Blow::Out],
     );
     misses(rt, &ringing, &mut row, order);
     tells(
@@ -142,7 +142,7 @@ fn drawn_once<W: Wire + Drop>(rt: &impl Abort, wire: W) -> Result<(), Fail> {
         &ringing,
         &row,
         piece,
-        [Blow::Struck, Blow::Rings, Blow::Missed],
+        [Blow::Struck, Blow::Undrawn, Blow::Missed],
     );
     draw_refuses(rt, &ringing, row, 3, Refusal::Order);
     draw_refuses(rt, &ringing, row, 2, Refusal::Silent);

@@ -1,9 +1,9 @@
 // What the cases share: ringings that are played to the end, calls with numbers in place of box numbers and sets, and what is to be answered.
 use frames::LONGEST_FRAME;
-use kinds::{Kind, Piece};
-use numbers::Refusal;
+use proposals::{Proposal, Piece};
+use base::Refusal;
 use ringing::{Ringing, StrikeOrder};
-use rows::{Blow, Place, Rung, Standing};
+use machine::{Blow, Place, Rung, Standing};
 use sets::{BoxNumber, BoxSet, RoundNumber};
 use std::process::Abort;
 use wire::Wire;
@@ -20,7 +20,7 @@ pub(crate) fn pieces() -> Result<[Piece; 4], Refusal> {
     ])
 }
 
-pub(crate) fn make<W: Wire + Drop, K: Kind>(
+pub(crate) fn make<W: Wire + Drop, K: Proposal>(
     n: u32,
     t: u32,
     wire: W,
@@ -42,7 +42,7 @@ pub(crate) fn of_four<W: Wire + Drop>(
 }
 
 // The lost set is written as a mask.
-pub(crate) fn falls<W: Wire, K: Kind>(
+pub(crate) fn falls<W: Wire, K: Proposal>(
     ringing: &mut Ringing<W>,
     row: &[Place<K>],
     q: u32,
@@ -51,7 +51,7 @@ pub(crate) fn falls<W: Wire, K: Kind>(
     ringing.fall(row, BoxNumber(q), BoxSet::from_mask(lost))
 }
 
-pub(crate) fn plays<W: Wire, K: Kind>(
+pub(crate) fn plays<W: Wire, K: Proposal>(
     ringing: &mut Ringing<W>,
     row: &mut [Place<K>],
     rounds: u32,
@@ -97,7 +97,7 @@ pub(crate) fn rung_in_two<W: Wire + Drop>(
 }
 
 // The order of box p, which is for this round.
-pub(crate) fn draws<W: Wire, K: Kind>(
+pub(crate) fn draws<W: Wire, K: Proposal>(
     rt: &impl Abort,
     ringing: &Ringing<W>,
     row: &mut [Place<K>],
@@ -126,7 +126,7 @@ pub(crate) fn given_back(rt: &impl Abort, reported: Result<(), (StrikeOrder, Ref
     }
 }
 
-pub(crate) fn strikes<W: Wire, K: Kind>(
+pub(crate) fn strikes<W: Wire, K: Proposal>(
     rt: &impl Abort,
     ringing: &Ringing<W>,
     row: &mut [Place<K>],
@@ -135,7 +135,7 @@ pub(crate) fn strikes<W: Wire, K: Kind>(
     given_back(rt, ringing.struck(row, order));
 }
 
-pub(crate) fn misses<W: Wire, K: Kind>(
+pub(crate) fn misses<W: Wire, K: Proposal>(
     rt: &impl Abort,
     ringing: &Ringing<W>,
     row: &mut [Place<K>],
@@ -144,7 +144,7 @@ pub(crate) fn misses<W: Wire, K: Kind>(
     given_back(rt, ringing.missed(row, order));
 }
 
-pub(crate) fn asks<W: Wire, K: Kind>(
+pub(crate) fn asks<W: Wire, K: Proposal>(
     ringing: &Ringing<W>,
     row: &[Place<K>],
     p: u32,

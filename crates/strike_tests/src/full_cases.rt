@@ -1,9 +1,9 @@
 // A full company: all 32 boxes ring, and all orders are out at once.
 use super::fixtures::{EMPTY, asks, draws, make, misses, plays, rung, strikes};
-use kinds::Piece;
-use numbers::Refusal;
+use proposals::Piece;
+use base::Refusal;
 use ringing::{Ringing, StrikeOrder};
-use rows::{Blow, Place};
+use machine::{Blow, Place};
 use std::process::Abort;
 use std::test::Fail;
 use wire::{Board, Tape, Wire};
@@ -68,7 +68,7 @@ fn full<W: Wire + Drop>(rt: &impl Abort, wire: W) -> Result<(), Fail> {
     let mut ringing = make(32, 31, wire, &mut row, &descending()?)?;
     plays(&mut ringing, &mut row, 32)?;
     let piece = Piece::new(469)?;
-    all_tell(rt, &ringing, &row, piece, Blow::Rings, Blow::Rings);
+    all_tell(rt, &ringing, &row, piece, Blow::Undrawn, Blow::Undrawn);
     draw_all(rt, &ringing, &mut row, piece, 32);
     all_tell(rt, &ringing, &row, piece, Blow::Struck, Blow::Missed);
     Ok(())

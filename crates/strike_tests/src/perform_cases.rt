@@ -4,12 +4,12 @@ use super::fixtures::{
     rung_in_two, strikes, tells,
 };
 use frames::LONGEST_FRAME;
-use kinds::Piece;
-use numbers::Refusal;
-use performing::perform;
+use proposals::Piece;
+use base::Refusal;
+use call_lists::make_calls;
 use ringing::{Ringing, StrikeOrder};
-use rows::{Blow, Place, Standing};
-use runs::{Reply, Request};
+use machine::{Blow, Place, Standing};
+use promise::{Reply, Request};
 use sets::{BoxNumber, BoxSet, RoundNumber};
 use std::process::Abort;
 use std::test::Fail;
@@ -103,7 +103,7 @@ fn answers<W: Wire>(
 ) {
     assert_eq!(rt; calls.len(), wanted.len());
     let mut answers = [UNTOUCHED; 20];
-    assert_eq!(rt; perform(ringing, row, orders, calls, &mut answers), Ok(()));
+    assert_eq!(rt; make_calls(ringing, row, orders, calls, &mut answers), Ok(()));
     for (i, answer) in answers.iter().enumerate() {
         let want = wanted.get(i).copied().unwrap_or(UNTOUCHED);
         assert_eq!(rt; *answer, want, "answer {i}");
@@ -123,7 +123,7 @@ fn refuses<W: Wire>(
     assert!(rt; room <= answers.len());
     let calls = [fall(3), ROUND, draw(1), ask(0)];
     assert_eq!(rt;
-        perform(ringing, row, orders, &calls, &mut answers[..room]),
+        make_calls(ringing, row, orders, &calls, &mut answers[..room]),
         Err(Refusal::Row)
     );
     assert!(rt; *row == before && answers == [UNTOUCHED; 5]);
@@ -184,7 +184,7 @@ fn up_to_the_ring<W: Wire + Drop>(rt: &impl Abort, wire: W) -> Result<(), Fail> 
         &ringing,
         &row,
         piece,
-        [Blow::Rings, Blow::Rings, Blow::Rings],
+        [Blow::Undrawn, Blow::Undrawn, Blow::Undrawn],
     );
     Ok(())
 }
@@ -289,7 +289,7 @@ fn not_in_hand<W: Wire + Drop>(rt: &impl Abort, wire: W) -> Result<(), Fail> {
         &ringing,
         &row,
         piece,
-        [Blow::Out, Blow::Rings, Blow::Struck],
+        [Blow::Out, Blow::Undrawn, Blow::Struck],
     );
     give_all(rt, &ringing, &mut row, orders);
     tells(
@@ -297,7 +297,7 @@ fn not_in_hand<W: Wire + Drop>(rt: &impl Abort, wire: W) -> Result<(), Fail> {
         &ringing,
         &row,
         piece,
-        [Blow::Missed, Blow::Rings, Blow::Struck],
+        [Blow::Missed, Blow::Undrawn, Blow::Struck],
     );
     Ok(())
 }
@@ -318,12 +318,12 @@ fn too_few_places<W: Wire + Drop>(rt: &impl Abort, wire: W) -> Result<(), Fail> 
     }
     let mut places = [UNTOUCHED; 2];
     assert_eq!(rt;
-        perform(&mut ringing, &mut row, &mut orders, &[], &mut places[..0]),
+        make_calls(&mut ringing, &mut row, &mut orders, &[], &mut places[..0]),
         Ok(())
     );
     let calls = [fall(3), ROUND];
     assert_eq!(rt;
-        perform(&mut ringing, &mut row, &mut orders, &calls, &mut places),
+        make_calls(&mut ringing, &mut row, &mut orders, &calls, &mut places),
         Ok(())
     );
     assert!(rt; places == [DONE; 2]);

@@ -5,11 +5,11 @@ use super::fixtures::{
     rung_in_three, rung_in_two, strikes, tells,
 };
 use frames::LONGEST_FRAME;
-use kinds::Piece;
-use numbers::Refusal;
+use proposals::Piece;
+use base::Refusal;
 use reports::{LONGEST_REPORT, write_report};
 use ringing::{Ringing, StrikeOrder};
-use rows::{Blow, Place, Rung};
+use machine::{Blow, Place, Rung};
 use sets::{BoxNumber, RoundNumber};
 use std::process::Abort;
 use std::test::Fail;
@@ -229,7 +229,7 @@ fn one_rings<W: Wire + Drop>(rt: &impl Abort, wire: W) -> Result<(), Fail> {
     let mut ringing = of_four(wire, &mut row)?;
     plays(&mut ringing, &mut row, 1)?;
     let piece = Piece::new(10)?;
-    for blow in [Blow::Rings, Blow::Out, Blow::Struck, Blow::Missed] {
+    for blow in [Blow::Undrawn, Blow::Out, Blow::Struck, Blow::Missed] {
         let mut rings = with_first(row, 1, piece, blow);
         assert_eq!(rt; asks(&ringing, &rings, 0), Ok(rung(1, piece, blow)));
         is_over(rt, &mut ringing, &mut rings);

@@ -1,7 +1,7 @@
 // Answers the script of pieces on standard input: the report of its ringing on a board, or the line of the refusal.
 #![tactic(auto)]
 
-use plays::write_answer;
+use script_play::write_answer;
 use reports::LONGEST_REPORT;
 use std::io;
 use std::io::{Read, Write};

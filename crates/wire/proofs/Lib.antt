@@ -1,4 +1,4 @@
-pub mod Lists
-pub mod Shown
-pub mod Posts
-pub mod Tapes
+pub mod ListLemmas
+pub mod PostLemmas
+pub mod RosterLemmas
+pub mod TapeLemmas

@@ -1,8 +1,6 @@
-pub mod Kept
-pub mod Meaning
+pub mod Postable
+pub mod PostedBytes
 pub mod Rosters
-pub mod Lines
-pub mod Spans
-pub mod Boards
-pub mod Tapes
-pub mod FormedLemmas
+pub mod WireLemmas
+pub mod WireState
+pub mod Wires

@@ -1,13 +1,13 @@
 // The board: a wire that has a place of fixed size for the frame of each box.
 ghost use Rattle.std.specs.Prelude.{◌≡◌, ℕ, true};
 ghost use Rattle.sets.specs.Masks.{member};
-ghost use Rattle.wire.specs.Kept.{is_postable};
-ghost use Rattle.wire.specs.Lines.{line_frame};
+ghost use Rattle.wire.specs.Postable.{is_postable};
+ghost use Rattle.wire.specs.PostedBytes.{line_frame};
 
 use super::roster::{PLACES, Roster};
 use arrayvec::ArrayVec;
 use frames::LONGEST_FRAME;
-use numbers::Refusal;
+use base::Refusal;
 use sets::BoxNumber;
 use std::array;
 
@@ -21,12 +21,12 @@ pub struct Board {
 
 impl Board {
     ghost use Rattle.std.specs.Result.{result_map_both};
-    ghost use Rattle.wire.specs.Meaning.{making};
-    ghost use Rattle.wire.specs.Boards.{board_meaning};
+    ghost use Rattle.wire.specs.WireState.{on_make};
+    ghost use Rattle.wire.specs.Wires.{board_meaning};
 
     // A board for n boxes, all up.
     pub fn new(n: u32) -> Result<Board, Refusal>
-        ensures { result_map_both board_meaning (λ e. e) result ≡ making n }
+        ensures { result_map_both board_meaning (λ e. e) result ≡ on_make n }
     {
         Ok(Board {
             roster: Roster::new(n)?,

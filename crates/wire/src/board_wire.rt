@@ -1,11 +1,11 @@
 // A board as a wire.
-ghost use Rattle.wire.specs.Boards.{board_meaning};
-ghost use Rattle.wire.specs.FormedLemmas.{board_formed};
+ghost use Rattle.wire.specs.Wires.{board_meaning};
+ghost use Rattle.wire.specs.WireLemmas.{board_formed};
 
 use super::board::Board;
 use super::wire::Wire;
 use arrayvec::ArrayVec;
-use numbers::Refusal;
+use base::Refusal;
 use sets::{BoxNumber, BoxSet};
 
 impl Wire for Board {
@@ -21,12 +21,12 @@ impl Wire for Board {
         self.roster.up
     }
 
-    #[tactic(auto, using(crate::proofs::Shown::falling_shown))]
+    #[tactic(auto, using(crate::proofs::RosterLemmas::falling_shown))]
     fn falling(&self) -> BoxSet {
         self.roster.falling
     }
 
-    #[tactic(auto, using(crate::proofs::Shown::posted_shown))]
+    #[tactic(auto, using(crate::proofs::RosterLemmas::posted_shown))]
     fn posted(&self) -> BoxSet {
         self.roster.posted
     }

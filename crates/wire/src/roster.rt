@@ -1,10 +1,10 @@
 // The roster of a wire: all that a wire means but the bytes. Its contracts say what it makes of that meaning, whatever the bytes are.
 ghost use Rattle.std.specs.Prelude.{◌≡◌, ℕ, ◌^◌, ◌<◌, ◌≤◌, true};
 ghost use Rattle.sets.specs.Masks.{member};
-ghost use Rattle.wire.specs.Kept.{set_at, Falls};
+ghost use Rattle.wire.specs.Postable.{set_at, IsFalling};
 
 use super::wire::is_postable;
-use numbers::Refusal;
+use base::Refusal;
 use sets::{BoxNumber, BoxSet, MOST_COMPANY, is_company_size};
 
 // A place for each box that a company can have.
@@ -21,7 +21,7 @@ pub(crate) struct Roster {
     ghost several: { 2 ≤ n },
     ghost few: { n ≤ 32 },
     ghost up_within: { up.mask < 2 ^ n },
-    ghost losing: { (q : ℕ) → member falling q ≡ true → Falls n up q (set_at lost q) },
+    ghost losing: { (q : ℕ) → member falling q ≡ true → IsFalling n up q (set_at lost q) },
     ghost posted_within: { posted.mask < 2 ^ n },
 }
 
@@ -29,13 +29,14 @@ impl Roster {
     ghost use Rattle.std.specs.Prelude.{List, length, IfOk, OnOk, OnErr, false, ◌||◌, ◌==◌};
     ghost use Rattle.std.specs.Result.{result_map_both};
     ghost use Rattle.sets.specs.Masks.{set_of};
-    ghost use Rattle.wire.specs.Kept.{is_postable};
-    ghost use Rattle.wire.specs.Meaning.{making, opened, closed, falling, posting, carrying, answer, or_kept, fetching, told, laid};
-    ghost use Rattle.wire.specs.Rosters.{shown, reaching};
+    ghost use Rattle.wire.specs.Postable.{is_postable};
+    ghost use Rattle.wire.specs.WireState.{on_make, on_open, on_close, on_fall, on_post, with_posted, on_fetch, fetch_answer, fetched_bytes};
+    ghost use Rattle.base.specs.Results.{answer, or_kept};
+    ghost use Rattle.wire.specs.Rosters.{roster_state, reach_answer};
 
-    #[tactic(auto, unfolding(crate::specs::Meaning::making))]
+    #[tactic(auto, unfolding(crate::specs::WireState::on_make))]
     pub(crate) fn new(n: u32) -> Result<Roster, Refusal>
-        ensures made { (frames : ℕ → List ℕ) → result_map_both (λ r. shown r frames) (λ e. e) result ≡ making n }
+        ensures made { (frames : ℕ → List ℕ) → result_map_both (λ r. roster_state r frames) (λ e. e) result ≡ on_make n }
         ensures posted { IfOk result (λ r. r.posted ≡ set_of (λ _. false)) }
     {
         if !is_company_size(n) {
@@ -52,24 +53,24 @@ impl Roster {
 
     pub(crate) fn open(&mut self)
         ensures posted { self.new.posted ≡ set_of (λ _. false) }
-        ensures meaning { (frames : ℕ → List ℕ) → shown self.new frames ≡ opened (shown self.old frames) }
+        ensures meaning { (frames : ℕ → List ℕ) → roster_state self.new frames ≡ on_open (roster_state self.old frames) }
     {
         self.posted = BoxSet::empty();
     }
 
     pub(crate) fn close(&mut self)
         ensures posted { self.new.posted ≡ self.old.posted }
-        ensures meaning { (frames : ℕ → List ℕ) → shown self.new frames ≡ closed (shown self.old frames) }
+        ensures meaning { (frames : ℕ → List ℕ) → roster_state self.new frames ≡ on_close (roster_state self.old frames) }
     {
         self.up = self.up.difference(self.falling);
         self.falling = BoxSet::empty();
     }
 
-    #[tactic(auto, unfolding(crate::specs::Meaning::falling))]
+    #[tactic(auto, unfolding(crate::specs::WireState::on_fall))]
     pub(crate) fn fall(&mut self, q: BoxNumber, lost: BoxSet) -> Result<(), Refusal>
-        ensures answer { (frames : ℕ → List ℕ) → result ≡ answer (falling q.0 lost (shown self.old frames)) }
+        ensures answer { (frames : ℕ → List ℕ) → result ≡ answer (on_fall q.0 lost (roster_state self.old frames)) }
         ensures posted { self.new.posted ≡ self.old.posted }
-        ensures meaning { (frames : ℕ → List ℕ) → shown self.new frames ≡ or_kept (shown self.old frames) (falling q.0 lost (shown self.old frames)) }
+        ensures meaning { (frames : ℕ → List ℕ) → roster_state self.new frames ≡ or_kept (roster_state self.old frames) (on_fall q.0 lost (roster_state self.old frames)) }
         ensures refused { OnErr result (self.new ≡ self.old) }
     {
         if q.0 >= self.n {
@@ -87,9 +88,9 @@ impl Roster {
     }
 
     // Whether box q may post the frame, and why not.
-    #[tactic(auto, unfolding(crate::specs::Meaning::posting))]
+    #[tactic(auto, unfolding(crate::specs::WireState::on_post))]
     pub(crate) fn check_posting(&self, q: BoxNumber, frame: &[u8]) -> Result<(), Refusal>
-        ensures answer { (frames : ℕ → List ℕ) → result ≡ answer (posting q.0 frame.now (shown self.now frames)) }
+        ensures answer { (frames : ℕ → List ℕ) → result ≡ answer (on_post q.0 frame.now (roster_state self.now frames)) }
         ensures company { OnOk result (q.0 < self.now.n) }
         ensures vacant { OnOk result (member self.now.posted q.0 ≡ false) }
         ensures postable { OnOk result (is_postable frame.now ≡ true) }
@@ -113,14 +114,14 @@ impl Roster {
     pub(crate) fn enter_posted(&mut self, q: BoxNumber)
         requires { q.0 < self.old.n }
         ensures posted { self.new.posted ≡ set_of (λ i. member self.old.posted i || i == q.0) }
-        ensures meaning { (before after : ℕ → List ℕ) → ((i : ℕ) → (i == q.0) ≡ false → member self.old.posted i ≡ true → after i ≡ before i) → shown self.new after ≡ carrying q.0 (after q.0) (shown self.old before) }
+        ensures meaning { (before after : ℕ → List ℕ) → ((i : ℕ) → (i == q.0) ≡ false → member self.old.posted i ≡ true → after i ≡ before i) → roster_state self.new after ≡ with_posted q.0 (after q.0) (roster_state self.old before) }
     {
         self.posted = self.posted.with(q);
     }
 
     // Whether there is something that box p hears of box q.
     fn reaches(&self, p: BoxNumber, q: BoxNumber) -> Result<bool, Refusal>
-        ensures { (frames : ℕ → List ℕ) → result ≡ reaching p.0 q.0 (shown self.now frames) }
+        ensures { (frames : ℕ → List ℕ) → result ≡ reach_answer p.0 q.0 (roster_state self.now frames) }
     {
         if p.0 >= self.n || q.0 >= self.n {
             return Err(Refusal::Stranger);
@@ -130,7 +131,7 @@ impl Roster {
     }
 
     // Gives box p what it hears of box q, where `frame` is what q has posted, if it has.
-    #[tactic(auto, unfolding(crate::specs::Meaning::fetching))]
+    #[tactic(auto, unfolding(crate::specs::WireState::on_fetch))]
     pub(crate) fn fetch(
         &self,
         p: BoxNumber,
@@ -138,8 +139,8 @@ impl Roster {
         frame: &[u8],
         out: &mut [u8],
     ) -> Result<Option<usize>, Refusal>
-        ensures answer { (frames : ℕ → List ℕ) → (member self.now.posted q.0 ≡ true → frame.now ≡ frames q.0) → result ≡ told (fetching p.0 q.0 (length out.old) (shown self.now frames)) }
-        ensures bytes { (frames : ℕ → List ℕ) → (member self.now.posted q.0 ≡ true → frame.now ≡ frames q.0) → out.new ≡ laid (fetching p.0 q.0 (length out.old) (shown self.now frames)) out.old }
+        ensures answer { (frames : ℕ → List ℕ) → (member self.now.posted q.0 ≡ true → frame.now ≡ frames q.0) → result ≡ fetch_answer (on_fetch p.0 q.0 (length out.old) (roster_state self.now frames)) }
+        ensures bytes { (frames : ℕ → List ℕ) → (member self.now.posted q.0 ≡ true → frame.now ≡ frames q.0) → out.new ≡ fetched_bytes (on_fetch p.0 q.0 (length out.old) (roster_state self.now frames)) out.old }
     {
         if !self.reaches(p, q)? {
             return Ok(None);

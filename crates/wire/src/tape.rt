@@ -1,13 +1,13 @@
 // The tape: a wire on which frames of their own length follow one another as posted.
 ghost use Rattle.std.specs.Prelude.{◌≡◌, ℕ, ◌+◌, ◌≤◌, ◌++◌, true, length};
 ghost use Rattle.sets.specs.Masks.{member};
-ghost use Rattle.wire.specs.Spans.{span_at, span_length, Holds, Apart, total};
+ghost use Rattle.wire.specs.PostedBytes.{span_at, span_length, HoldsFrame, AreApart, sum_over};
 
 use super::roster::{PLACES, Roster};
 use super::span::Span;
 use arrayvec::ArrayVec;
 use frames::LONGEST_FRAME;
-use numbers::Refusal;
+use base::Refusal;
 use sets::BoxNumber;
 
 // Room for a frame of each box.
@@ -19,20 +19,20 @@ pub struct Tape {
     // By the number of the box; of no meaning where it has not posted. Each byte is in the span of just one that has.
     pub(crate) spans: [Span; PLACES],
     pub(crate) frames: ArrayVec<u8, TAPE_ROOM>,
-    ghost holds: { (q : ℕ) → member roster.posted q ≡ true → Holds (length frames.items) (span_at spans q) },
-    ghost apart: { Apart (member roster.posted) (span_at spans) },
-    ghost filled: { length frames.items ≡ total (member roster.posted) (span_length spans) 32 },
+    ghost holds: { (q : ℕ) → member roster.posted q ≡ true → HoldsFrame (length frames.items) (span_at spans q) },
+    ghost apart: { AreApart (member roster.posted) (span_at spans) },
+    ghost filled: { length frames.items ≡ sum_over (member roster.posted) (span_length spans) 32 },
 }
 
 impl Tape {
     ghost use Rattle.std.specs.Result.{result_map_both};
-    ghost use Rattle.wire.specs.Meaning.{making};
-    ghost use Rattle.wire.specs.Spans.{tape_frame};
-    ghost use Rattle.wire.specs.Tapes.{tape_meaning};
+    ghost use Rattle.wire.specs.WireState.{on_make};
+    ghost use Rattle.wire.specs.PostedBytes.{tape_frame};
+    ghost use Rattle.wire.specs.Wires.{tape_meaning};
 
     // A tape for n boxes, all up.
     pub fn new(n: u32) -> Result<Tape, Refusal>
-        ensures { result_map_both tape_meaning (λ e. e) result ≡ making n }
+        ensures { result_map_both tape_meaning (λ e. e) result ≡ on_make n }
     {
         Ok(Tape {
             roster: Roster::new(n)?,

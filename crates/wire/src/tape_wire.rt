@@ -1,10 +1,10 @@
 // A tape as a wire.
-ghost use Rattle.wire.specs.Tapes.{tape_meaning};
-ghost use Rattle.wire.specs.FormedLemmas.{tape_formed};
+ghost use Rattle.wire.specs.Wires.{tape_meaning};
+ghost use Rattle.wire.specs.WireLemmas.{tape_formed};
 
 use super::tape::{Tape, append};
 use super::wire::Wire;
-use numbers::Refusal;
+use base::Refusal;
 use sets::{BoxNumber, BoxSet};
 
 impl Wire for Tape {
@@ -20,12 +20,12 @@ impl Wire for Tape {
         self.roster.up
     }
 
-    #[tactic(auto, using(crate::proofs::Shown::falling_shown))]
+    #[tactic(auto, using(crate::proofs::RosterLemmas::falling_shown))]
     fn falling(&self) -> BoxSet {
         self.roster.falling
     }
 
-    #[tactic(auto, using(crate::proofs::Shown::posted_shown))]
+    #[tactic(auto, using(crate::proofs::RosterLemmas::posted_shown))]
     fn posted(&self) -> BoxSet {
         self.roster.posted
     }

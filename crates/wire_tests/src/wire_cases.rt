@@ -1,6 +1,6 @@
 // Rounds over any wire, each on a board and on a tape. What is fetched goes into bytes that held 0xaa, and those behind are looked at.
 use frames::LONGEST_FRAME;
-use numbers::Refusal;
+use base::Refusal;
 use sets::{BoxNumber, BoxSet};
 use std::process::Abort;
 use std::test::Fail;

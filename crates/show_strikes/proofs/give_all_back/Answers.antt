@@ -1,4 +1,4 @@
-use Rattle.show_strikes.proofs.Returned.{ready_from, back_now, back_on}
+use Rattle.show_strikes.proofs.OrdersReturned.{ready_from, back_now, back_on}
 use Rattle.show_strikes.proofs.give_all_back.Goals as goal
 
 pub give_back-requires : goal.give_back-requires

@@ -7,7 +7,7 @@ use Rattle.std.proofs.lemmas.Iterator.{YieldsList-from_slice}
 use Rattle.std.proofs.lemmas.Iterator.Adapters.{YieldsList-from_skip}
 use Rattle.std.proofs.lemmas.Iterator.Consumers.{YieldsList-from_enumerate, YieldsList-turn, YieldsList-end}
 use Rattle.numbers.specs.Numbers.{goes_on, value_of}
-use Rattle.numbers.proofs.Steps.{Group, at_end, at_wide, at_fifth, at_last, more, value_more}
+use Rattle.numbers.proofs.ReadingStep.{Group, at_end, at_wide, at_fifth, at_last, more, value_more}
 use Rattle.numbers.proofs.codec.read_groups.Goals as goal
 use Rattle.numbers.proofs.codec.read_groups.Goals.{In-Some}
 

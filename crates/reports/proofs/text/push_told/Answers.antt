@@ -1,6 +1,6 @@
 use Rattle.std.proofs.Common.{arith}
 use Rattle.std.proofs.lemmas.Grind.{common_steps}
-use Rattle.reports.proofs.Lines.{tells}
+use Rattle.reports.proofs.LineLengths.{tells}
 use Rattle.reports.proofs.text.push_told.Goals as goal
 
 pub returns-in-Up-clause-items : goal.returns-in-Up-clause-items

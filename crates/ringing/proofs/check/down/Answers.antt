@@ -1,7 +1,7 @@
 use Rattle.std.proofs.Common.{ltb, arith}
 use Rattle.std.proofs.lemmas.Bool.Decides.{nat_tests}
 use Rattle.sets.specs.Masks.{member}
-use Rattle.sets.proofs.Members.{difference_of, member_is}
+use Rattle.sets.proofs.MemberLemmas.{difference_of, member_is}
 use Rattle.ringing.proofs.check.down.Goals as goal
 
 pub returns : goal.returns

@@ -1,10 +1,10 @@
 use Rattle.std.proofs.Common.{ltb, not, ◌&&◌, ◌∙◌, arith}
 use Rattle.std.proofs.lemmas.Bool.Decides.{nat_tests}
 use Rattle.sets.specs.Masks.{member}
-use Rattle.sets.proofs.Bits.{set_ext}
-use Rattle.sets.proofs.Members.{member_is}
-use Rattle.rows.specs.Calls.{is_gone}
-use Rattle.ringing.proofs.Wires.{falling_member}
+use Rattle.sets.proofs.BitLemmas.{set_ext}
+use Rattle.sets.proofs.MemberLemmas.{member_is}
+use Rattle.machine.specs.State.{is_gone}
+use Rattle.ringing.proofs.WireSets.{falling_member}
 use Rattle.ringing.proofs.check.gone.Goals as goal
 
 pub returns : goal.returns

@@ -1,10 +1,10 @@
 use Rattle.std.proofs.Common.{◌<◌, take, Ok, refl, sym, ap, ◌∙◌, arith}
 use Rattle.std.specs.Result.{result_map_both, result_unwrap_or}
-use Rattle.boxes.specs.Faults.{refusal_of}
-use Rattle.boxes.specs.Rounds.{hearing}
-use Rattle.wire.specs.Meaning.{heard}
-use Rattle.ringing.specs.States.{told_notes}
-use Rattle.ringing.proofs.Fetches.{fetched_never, fetched_none, fetched_some, taken_length, told_again, kept_again}
+use Rattle.boxes.specs.BoxFaults.{refusal_of}
+use Rattle.boxes.specs.BoxRounds.{on_hear}
+use Rattle.wire.specs.WireState.{heard_frame}
+use Rattle.ringing.specs.RingingStates.{notes_when_told}
+use Rattle.ringing.proofs.FetchInRoom.{fetched_never, fetched_none, fetched_some, taken_length, told_again, kept_again}
 use Rattle.ringing.proofs.exchange.hear_box.Goals as goal
 
 pub returns-in_err-length : goal.returns-in_err-length
@@ -33,11 +33,11 @@ pub returns-in-Some : goal.returns-in-Some
 returns-in-Some g c =
     let m = g.W.Wire.meaning c.args.wire.now in
     let l = c.args.listening.now in
-    let k = g.K.Kind in
+    let kind = g.K.Proposal.kind in
     let f = fetched_some m (g.met.W.Wire.formed c.args.wire.now) c.number.result.0 c.args.q.0 c.args.line.now c.fetch.new.out c.fetch.result c.requires.sender c.requires.room
     c.fetch.ensures.answer c.fetch.ensures.bytes c.in-Some.length (c.in_ok-length.was ∙ ap Ok c.in-Some.is) in
-    let told = ap (told_notes k.leads k.SIZE k.named l.resting.held l.notes) (ap (λ x. heard m x.0 c.args.q.0) (sym c.number.ensures) ∙ f.1) in
-    let h = hearing k.leads k.SIZE k.named l.resting.held l.notes (take c.in-Some.length c.fetch.new.out) in
+    let told = ap (notes_when_told kind l.resting.held l.notes) (ap (λ x. heard_frame m x.0 c.args.q.0) (sym c.number.ensures) ∙ f.1) in
+    let h = on_hear kind l.resting.held l.notes (take c.in-Some.length c.fetch.new.out) in
     record {
       resting = c.tell.ensures.resting;
       answer = λ _. c.tell.ensures.answer ∙ told_again refusal_of h ∙ sym (ap (result_map_both (λ _. tt) (λ e. e)) told);
@@ -50,5 +50,5 @@ returns-in-None g c =
     let l = c.args.listening.now in
     let f = fetched_none m (g.met.W.Wire.formed c.args.wire.now) c.number.result.0 c.args.q.0 c.args.line.now c.fetch.new.out c.fetch.result c.requires.sender c.requires.room
     c.fetch.ensures.answer c.fetch.ensures.bytes (c.in_ok-length.was ∙ ap Ok c.in-None.is) in
-    let told = ap (told_notes g.K.Kind.leads g.K.Kind.SIZE g.K.Kind.named l.resting.held l.notes) (ap (λ x. heard m x.0 c.args.q.0) (sym c.number.ensures) ∙ f) in
+    let told = ap (notes_when_told g.K.Proposal.kind l.resting.held l.notes) (ap (λ x. heard_frame m x.0 c.args.q.0) (sym c.number.ensures) ∙ f) in
     record { resting = refl; answer = λ _. sym (ap (result_map_both (λ _. tt) (λ e. e)) told); notes = λ _. sym (ap (λ r. result_unwrap_or r l.notes) told) }

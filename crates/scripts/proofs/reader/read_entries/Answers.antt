@@ -1,7 +1,7 @@
 use Rattle.std.proofs.Common.{◌≡◌, Ok, Err, arith}
 use Rattle.std.proofs.lemmas.Bool.Decides.{nat_tests}
-use Rattle.scripts.specs.Reading.{entry_at, read_entries}
-use Rattle.scripts.proofs.Several.{several_more, several_stop}
+use Rattle.scripts.specs.ScriptReading.{entry_at, read_entries}
+use Rattle.scripts.proofs.SeveralRead.{several_more, several_stop}
 use Rattle.scripts.proofs.reader.read_entries.Goals as goal
 
 pub returns-in_err-entry : goal.returns-in_err-entry

@@ -1,8 +1,8 @@
 use Rattle.std.proofs.Common.{◌≡◌, take, Ok}
-use Rattle.scripts.specs.Reading.{several, proposal_at}
+use Rattle.scripts.specs.ScriptReading.{read_several, proposal_at}
 use Rattle.scripts.proofs.reader.read_proposals.Given as goal
 
 abbrev pub invariant-loop-place : goal.invariant-loop-place
 invariant-loop-place g l =
-    let k = g.K.Kind in
-    several (λ _. proposal_at k.SIZE k.named l.bytes) l.place-index l.at ≡ Ok (take l.place-index l.places, l.next)
+    let kind = g.K.Proposal.kind in
+    read_several (λ _. proposal_at kind l.bytes) l.place-index l.at ≡ Ok (take l.place-index l.places, l.next)

@@ -1,6 +1,6 @@
 use Rattle.std.proofs.Common.{◌≡◌, ◌+◌, ◌≤◌, ap, arith}
-use Rattle.sets.proofs.Members.{inside_counts}
-use Rattle.boxes.proofs.Unheard.{unheard_below, unheard_own}
+use Rattle.sets.proofs.MemberLemmas.{inside_counts}
+use Rattle.boxes.proofs.UnheardBoxes.{unheard_below, unheard_own}
 use Rattle.boxes.proofs.states.Listening.close.Given as given
 use Rattle.boxes.proofs.states.Listening.close.Goals as goal
 use Rattle.boxes.proofs.states.Listening.close.Goals.{After-count-2}

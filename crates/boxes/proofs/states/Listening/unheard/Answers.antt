@@ -1,7 +1,7 @@
 use Rattle.std.proofs.Common.{ℕ, Bool, not, ◌&&◌, ltb, ap, ◌∙◌}
 use Rattle.sets.specs.Masks.{member}
-use Rattle.sets.proofs.Bits.{set_ext}
-use Rattle.sets.proofs.Members.{member_is}
+use Rattle.sets.proofs.BitLemmas.{set_ext}
+use Rattle.sets.proofs.MemberLemmas.{member_is}
 use Rattle.boxes.proofs.states.Listening.unheard.Goals as goal
 
 pub returns : goal.returns

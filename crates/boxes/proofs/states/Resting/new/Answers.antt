@@ -1,4 +1,4 @@
-use Rattle.sets.proofs.Members.{none_member, none_below, none_counted}
+use Rattle.sets.proofs.MemberLemmas.{none_member, none_below, none_counted}
 use Rattle.std.proofs.Common.{arith}
 use Rattle.boxes.proofs.states.Resting.new.Goals as goal
 

@@ -1,6 +1,6 @@
 use Rattle.std.proofs.Common.{arith}
 use Rattle.std.proofs.lemmas.Bool.Decides.{nat_tests}
-use Rattle.sets.proofs.Bits.{bit-mask_of}
+use Rattle.sets.proofs.BitLemmas.{bit-mask_of}
 use Rattle.boxes.proofs.states.Resting.open.Goals as goal
 
 pub invariant_of-result : goal.invariant_of-result

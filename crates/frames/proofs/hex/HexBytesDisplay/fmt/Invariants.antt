@@ -1,6 +1,6 @@
 use Rattle.std.specs.Prelude.{take}
 use Rattle.std.specs.Fmt.{HasWritten, IsPlainFormatter}
-use Rattle.frames.specs.Texts.{hex_text}
+use Rattle.frames.specs.ByteTexts.{hex_text}
 use Rattle.frames.proofs.hex.HexBytesDisplay.fmt.Given as goal
 
 abbrev pub invariant-loop-byte : goal.invariant-loop-byte

@@ -2,12 +2,12 @@ use Rattle.std.proofs.Common.{◌≡◌, false, cond, length, [], Ok, Err, Some,
 use Rattle.std.specs.List.{slice_get}
 use Rattle.std.proofs.lemmas.Bool.Decides.{nat_tests}
 use Rattle.std.proofs.lemmas.Option.{slice_get_read, slice_get_within}
-use Rattle.numbers.specs.declared.refusal.Refusal.TheVariants.{Row}
-use Rattle.rows.specs.declared.place.Place.{Place}
-use Rattle.rows.specs.Places.{shown}
-use Rattle.rows.specs.Calls.{misplaced}
-use Rattle.ringing.specs.States.{state}
-use Rattle.ringing.proofs.Rows.{not_true, not_false, gone_counted, short_bad, gone_bad, place_bad, row_good}
+use Rattle.base.specs.declared.refusal.Refusal.TheVariants.{Row}
+use Rattle.machine.specs.declared.place.Place.{Place}
+use Rattle.machine.specs.Places.{place_state}
+use Rattle.machine.specs.RowCheck.{is_misplaced}
+use Rattle.ringing.specs.RingingStates.{state}
+use Rattle.ringing.proofs.RowRefused.{not_true, not_false, gone_counted, short_bad, gone_bad, place_bad, row_good}
 use Rattle.ringing.proofs.ringing.Ringing.check_row.Goals as goal
 use Rattle.ringing.proofs.ringing.Ringing.check_row.Goals.{then-row-n-via-then-row-n, then-row-n-via-else-row-n+then-count-self}
 
@@ -35,8 +35,8 @@ loop-p-preserved g c = λ k x l at.
     let r = c.args.self.now in
     let row = c.args.row.now in
     let here = slice_get_read row (length row) c.loop-p.p c.index-row-p.result refl c.loop-p-test.true c.index-row-p.is in
-    below_more (λ k. (x : Place g.row.K.Denot) → slice_get row k ≡ Some x → misplaced (state m r.t r.closed []) k (shown x) ≡ false) c.loop-p.p (λ k l x at. c.loop-p.invariant k x l at)
-    (λ x at. let same : c.index-row-p.result ≡ x = cc in ap (λ y. misplaced (state m r.t r.closed []) c.loop-p.p (shown y)) (sym same) ∙ not_true _ _ c.may_stand.ensures c.if-not-may_stand.false)
+    below_more (λ k. (x : Place g.row.K.Denot) → slice_get row k ≡ Some x → is_misplaced (state m r.t r.closed []) k (place_state x) ≡ false) c.loop-p.p (λ k l x at. c.loop-p.invariant k x l at)
+    (λ x at. let same : c.index-row-p.result ≡ x = cc in ap (λ y. is_misplaced (state m r.t r.closed []) c.loop-p.p (place_state y)) (sym same) ∙ not_true _ _ c.may_stand.ensures c.if-not-may_stand.false)
     k l x at
 
 pub returns : goal.returns

@@ -1,12 +1,13 @@
 use Rattle.std.proofs.Common.{ap, sym, ◌∙◌, ◌≡◌, arith}
-use Rattle.sets.specs.Companies.{company}
-use Rattle.wire.specs.Meaning as wire
-use Rattle.wire.specs.Meaning.{Meaning, falling}
-use Rattle.rows.specs.Calls.{telling, answer, or_kept}
-use Rattle.runs.specs.Runs.{done}
-use Rattle.runs.proofs.Replies.{done_answer}
-use Rattle.ringing.specs.States.{state}
-use Rattle.ringing.proofs.Falls.{told_ok, falls_size, not_refused}
+use Rattle.sets.specs.Companies.{is_company}
+use Rattle.wire.specs.WireState as wire
+use Rattle.wire.specs.WireState.{WireState, on_fall as wire_on_fall}
+use Rattle.machine.specs.FallCall.{on_fall}
+use Rattle.base.specs.Results.{answer, or_kept}
+use Rattle.promise.specs.CallSteps.{done_answer}
+use Rattle.promise.proofs.CallAnswers.{done_answer}
+use Rattle.ringing.specs.RingingStates.{state}
+use Rattle.ringing.proofs.FallByExit.{told_ok, falls_size, not_refused}
 use Rattle.ringing.proofs.ringing.Ringing.fall.Goals as goal
 
 pub invariant_of-self : goal.invariant_of-self
@@ -14,20 +15,20 @@ invariant_of-self g c =
     let r = c.args.self.now in
     let m = g.W.Wire.meaning r.wire in
     let kept = falls_size c.args.q.0 c.args.lost m in
-    let size : (g.W.Wire.meaning c.fall.new.self).n ≡ m.n = grind (arith, c.fall.ensures.meaning, kept) in
-    record { company = ap (λ n. company n r.t) size ∙ r.company }
+    let limits : (g.W.Wire.meaning c.fall.new.self).n ≡ m.n = grind (arith, c.fall.ensures.meaning, kept) in
+    record { company = ap (λ n. is_company n r.t) kind ∙ r.company }
 
 pub returns : goal.returns
 returns g c =
     let r = c.args.self.now in
     let m = g.W.Wire.meaning r.wire in
     let s = state m r.t r.closed c.args.row.now in
-    let t = told_ok c.args.q c.args.lost s c.in_ok-check_telling.ensures in
-    let told : c.fall.result ≡ answer (telling c.args.q c.args.lost s) = c.fall.ensures.answer ∙ ap wire.answer t.1 ∙ sym (ap answer t.2) in
+    let t = told_ok c.args.q c.args.lost s c.in_ok-check_fall.ensures in
+    let told : c.fall.result ≡ answer (on_fall c.args.q c.args.lost s) = c.fall.ensures.answer ∙ ap wire.answer t.1 ∙ sym (ap answer t.2) in
     record {
       answer = told;
       steps = (
-        ap (done {K = g.row.K.Denot}) told ∙ done_answer g.row.K.Denot (telling c.args.q c.args.lost s),
+        ap (done_answer {K = g.row.K.Denot}) told ∙ done_answer g.row.K.Denot (on_fall c.args.q c.args.lost s),
         ap (λ x. record s { wire = x }) (c.fall.ensures.meaning ∙ ap (wire.or_kept m) t.1) ∙ sym (ap (or_kept s) t.2),
       );
       refused = not_refused _ c.fall.result (told ∙ ap answer t.2);

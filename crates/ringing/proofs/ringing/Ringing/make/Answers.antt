@@ -1,8 +1,8 @@
 use Rattle.std.proofs.Common.{length, Ok, sym, ap, ◌∙◌, arith, refl}
-use Rattle.frames.specs.Faults.{map_fault}
-use Rattle.rows.specs.Calls.{making}
-use Rattle.ringing.proofs.Playing.{state_same}
-use Rattle.ringing.proofs.Making.{makes, makes_not, if_made}
+use Rattle.base.specs.Results.{map_fault}
+use Rattle.machine.specs.MakeCall.{on_make}
+use Rattle.ringing.proofs.RoundByState.{state_same}
+use Rattle.ringing.proofs.MakeAccepted.{makes, makes_not, if_made}
 use Rattle.ringing.proofs.ringing.Ringing.make.Goals as goal
 
 pub returns-in-Ok-clause-ringing : goal.returns-in-Ok-clause-ringing
@@ -19,11 +19,11 @@ returns-in-Err-clause-ringing g c =
 pub returns-in-Ok-clause-promised : goal.returns-in-Ok-clause-promised
 returns-in-Ok-clause-promised g c =
     let m = g.W.Wire.meaning c.args.wire in
-    if_made _ (making c.args.n c.args.t m (length c.args.row.now) c.args.proposals.now) (λ s made.
-    c.calls_follow.ensures.promised c.args.n c.args.t (length c.args.row.now) m c.args.proposals.now s (g.met.W.Wire.formed c.args.wire) made)
+    if_made _ (on_make c.args.n c.args.t m (length c.args.row.now) c.args.proposals.now) (λ s made.
+    c.promise_laws.ensures.promised c.args.n c.args.t (length c.args.row.now) m c.args.proposals.now s (g.met.W.Wire.formed c.args.wire) made)
 
 pub returns-in-Err-clause-promised : goal.returns-in-Err-clause-promised
 returns-in-Err-clause-promised g c =
     let m = g.W.Wire.meaning c.args.wire in
-    if_made _ (making c.args.n c.args.t m (length c.args.row.now) c.args.proposals.now) (λ s made.
-    c.calls_follow.ensures.promised c.args.n c.args.t (length c.args.row.now) m c.args.proposals.now s (g.met.W.Wire.formed c.args.wire) made)
+    if_made _ (on_make c.args.n c.args.t m (length c.args.row.now) c.args.proposals.now) (λ s made.
+    c.promise_laws.ensures.promised c.args.n c.args.t (length c.args.row.now) m c.args.proposals.now s (g.met.W.Wire.formed c.args.wire) made)

@@ -2,7 +2,7 @@
 use Rattle.std.proofs.Common.{arith, rules}
 use Rattle.std.proofs.lemmas.Nat.{one_shl}
 use Rattle.std.proofs.lemmas.Bool.Decides.{nat_tests}
-use Rattle.sets.proofs.Bits.{bit-ones, set_is, places}
+use Rattle.sets.proofs.BitLemmas.{bit-ones, set_is, places}
 use Rattle.sets.proofs.set.BoxSet.all_below.Goals as goal
 
 pub returns-then-n-lt-PLACES : goal.returns-then-n-lt-PLACES

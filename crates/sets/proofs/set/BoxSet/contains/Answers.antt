@@ -1,7 +1,7 @@
 -- A bit from 32 on is in no mask.
 use Rattle.std.proofs.Common.{arith, rules}
 use Rattle.std.proofs.lemmas.Bool.Decides.{nat_tests}
-use Rattle.sets.proofs.Bits.{bit_high, bit_read}
+use Rattle.sets.proofs.BitLemmas.{bit_high, bit_read}
 use Rattle.sets.proofs.set.BoxSet.contains.Goals as goal
 
 pub returns-then-q-lt-PLACES : goal.returns-then-q-lt-PLACES

@@ -1,6 +1,6 @@
 -- The set digits are the members.
 use Rattle.std.proofs.Common.{rules}
-use Rattle.sets.proofs.Bits.{ones_counted}
+use Rattle.sets.proofs.BitLemmas.{ones_counted}
 use Rattle.sets.proofs.set.BoxSet.count.Goals as goal
 
 pub returns : goal.returns

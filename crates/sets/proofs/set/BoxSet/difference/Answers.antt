@@ -2,7 +2,7 @@
 use Rattle.std.proofs.Common.{arith}
 use lib.Bits.{and_le_l}
 use Rattle.std.proofs.lemmas.Bool.Decides.{nat_tests}
-use Rattle.sets.proofs.Bits.{bit-not, set_is, places}
+use Rattle.sets.proofs.BitLemmas.{bit-not, set_is, places}
 use Rattle.sets.proofs.set.BoxSet.difference.Goals as goal
 
 pub returns : goal.returns

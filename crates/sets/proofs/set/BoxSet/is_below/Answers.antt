@@ -1,8 +1,8 @@
 -- From 32 on no mask has a bit; else the shift leaves the bits from n on.
 use Rattle.std.proofs.Common.{arith, rules}
 use Rattle.std.proofs.lemmas.Bool.Decides.{nat_tests}
-use Rattle.sets.proofs.Counts.{not-any}
-use Rattle.sets.proofs.Bits.{above_is}
+use Rattle.base.proofs.CountLemmas.{not-any}
+use Rattle.sets.proofs.BitLemmas.{above_is}
 use Rattle.sets.proofs.set.BoxSet.is_below.Goals as goal
 
 pub returns-then-n-ge-PLACES : goal.returns-then-n-ge-PLACES

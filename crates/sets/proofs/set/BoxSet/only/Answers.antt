@@ -2,7 +2,7 @@
 use Rattle.std.proofs.Common.{arith, rules}
 use Rattle.std.proofs.lemmas.Nat.{one_shl}
 use Rattle.std.proofs.lemmas.Bool.Decides.{nat_tests}
-use Rattle.sets.proofs.Bits.{set_is, places}
+use Rattle.sets.proofs.BitLemmas.{set_is, places}
 use Rattle.sets.proofs.set.BoxSet.only.Goals as goal
 
 pub returns-then-q-lt-PLACES : goal.returns-then-q-lt-PLACES

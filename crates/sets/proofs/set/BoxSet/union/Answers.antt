@@ -2,7 +2,7 @@
 use Rattle.std.proofs.Common.{arith, rules}
 use lib.Bits.{or_lt}
 use Rattle.std.proofs.lemmas.Bool.Decides.{nat_tests}
-use Rattle.sets.proofs.Bits.{set_is, places}
+use Rattle.sets.proofs.BitLemmas.{set_is, places}
 use Rattle.sets.proofs.set.BoxSet.union.Goals as goal
 
 pub returns : goal.returns

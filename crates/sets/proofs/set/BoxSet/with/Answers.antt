@@ -3,7 +3,7 @@ use Rattle.std.proofs.Common.{ap, ◌∙◌, arith}
 use Rattle.std.specs.Prelude.{nat_eq}
 use Rattle.std.proofs.lemmas.Bool.Decides.{nat_tests}
 use Rattle.sets.specs.Masks.{member}
-use Rattle.sets.proofs.Bits.{bit-mask_of, set_ext}
+use Rattle.sets.proofs.BitLemmas.{bit-mask_of, set_ext}
 use Rattle.sets.proofs.set.BoxSet.with.Goals as goal
 
 pub returns : goal.returns

@@ -1,14 +1,14 @@
 use Rattle.std.proofs.Common.{[], codes, sym, refl, ap}
 use Rattle.std.proofs.Output.{writes_in_calls_nil}
-use Rattle.sets.specs.Tests.{any}
+use Rattle.base.specs.Counts.{any}
 use Rattle.sets.specs.Masks.{member}
-use Rattle.sets.specs.Texts.{listed}
-use Rattle.sets.proofs.Texts.{listed_skip, listed_take}
+use Rattle.sets.specs.SetTexts.{list_text}
+use Rattle.sets.proofs.TextLemmas.{listed_skip, listed_take}
 use Rattle.sets.proofs.show.BoxSetDisplay.fmt.Goals as goal
 use Rattle.sets.proofs.show.BoxSetDisplay.fmt.Goals.{then-contains+in_ok-write-2, else-contains}
 
 pub loop-i-init : goal.loop-i-init
-unfolding any listed
+unfolding any list_text
 loop-i-init g c = (([], (refl, refl)), (refl, λ p. record { wrote = writes_in_calls_nil g.W.Write.write_str_gives _; plain = p }))
 
 pub loop-i-preserved : goal.loop-i-preserved

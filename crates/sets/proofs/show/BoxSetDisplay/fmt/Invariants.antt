@@ -1,7 +1,7 @@
 use denote.Shadow.{shadow}
 use denote.Text.{Utf8}
 use Rattle.sets.specs.Masks.{member}
-use Rattle.sets.proofs.Texts.{Listed}
+use Rattle.sets.proofs.TextLemmas.{Listed}
 use Rattle.sets.proofs.show.BoxSetDisplay.fmt.Given as goal
 
 abbrev pub invariant-loop-i : goal.invariant-loop-i

@@ -1,6 +1,6 @@
 use Rattle.std.proofs.Common.{[], arith}
-use Rattle.wire.specs.Lines.{line_frame}
-use Rattle.wire.proofs.Shown.{absent}
+use Rattle.wire.specs.PostedBytes.{line_frame}
+use Rattle.wire.proofs.RosterLemmas.{absent}
 use Rattle.wire.proofs.board.Board.new.Goals as goal
 
 pub returns-in_err-new : goal.returns-in_err-new

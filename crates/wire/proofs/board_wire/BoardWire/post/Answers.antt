@@ -1,10 +1,10 @@
 use Rattle.std.proofs.Common.{◌≡◌, true, ap, ◌∙◌, set, arith}
-use Rattle.wire.specs.Kept.{is_postable}
-use Rattle.wire.specs.Lines.{line_frame}
-use Rattle.wire.specs.Meaning.{carrying}
-use Rattle.wire.specs.Boards.{board_meaning}
-use Rattle.wire.proofs.Shown.{kept_more}
-use Rattle.wire.proofs.Posts.{line_replaced, posting_ok}
+use Rattle.wire.specs.Postable.{is_postable}
+use Rattle.wire.specs.PostedBytes.{line_frame}
+use Rattle.wire.specs.WireState.{with_posted}
+use Rattle.wire.specs.Wires.{board_meaning}
+use Rattle.wire.proofs.RosterLemmas.{kept_more}
+use Rattle.wire.proofs.PostLemmas.{line_replaced, posting_ok}
 use Rattle.wire.proofs.board_wire.BoardWire.post.Goals as goal
 
 pub invariant_of-self : goal.invariant_of-self
@@ -31,4 +31,4 @@ returns-clause-meaning c =
     let at = line_replaced b.lines q c.unwrap.result (omega (arith, b.roster.few, may.company)) in
     let is : line_frame after q ≡ f = grind (arith, at.0) in
     let posts = c.enter_posted.ensures.meaning (line_frame b.lines) (line_frame after) (λ i e _. at.1 i e) in
-    posts ∙ ap (λ g. carrying q g (board_meaning b)) is ∙ posting_ok q f (board_meaning b) (may.answer (line_frame b.lines))
+    posts ∙ ap (λ g. with_posted q g (board_meaning b)) is ∙ posting_ok q f (board_meaning b) (may.answer (line_frame b.lines))

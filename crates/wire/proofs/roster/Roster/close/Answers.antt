@@ -1,5 +1,5 @@
 use Rattle.std.proofs.Common.{[], refl, arith}
-use Rattle.wire.proofs.Shown.{absent, meaning_ext, none_if, staying_within, up_shown}
+use Rattle.wire.proofs.RosterLemmas.{absent, meaning_ext, none_if, staying_within, up_shown}
 use Rattle.wire.proofs.roster.Roster.close.Goals as goal
 
 pub returns-clause-meaning : goal.returns-clause-meaning

@@ -1,6 +1,6 @@
 use Rattle.std.proofs.Common.{refl}
-use Rattle.sets.proofs.Members.{entered_within}
-use Rattle.wire.proofs.Shown.{entered, meaning_ext}
+use Rattle.sets.proofs.MemberLemmas.{entered_within}
+use Rattle.wire.proofs.RosterLemmas.{entered, meaning_ext}
 use Rattle.wire.proofs.roster.Roster.enter_posted.Goals as goal
 
 pub invariant_of-self-clause-posted_within : goal.invariant_of-self-clause-posted_within

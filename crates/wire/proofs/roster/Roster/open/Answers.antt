@@ -1,6 +1,6 @@
 use Rattle.std.proofs.Common.{refl}
-use Rattle.sets.proofs.Members.{none_below}
-use Rattle.wire.proofs.Shown.{meaning_ext, none_if}
+use Rattle.sets.proofs.MemberLemmas.{none_below}
+use Rattle.wire.proofs.RosterLemmas.{meaning_ext, none_if}
 use Rattle.wire.proofs.roster.Roster.open.Goals as goal
 
 pub returns-clause-meaning : goal.returns-clause-meaning

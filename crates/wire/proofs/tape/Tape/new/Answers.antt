@@ -1,7 +1,7 @@
 use Rattle.std.proofs.Common.{[], replicate, arith}
-use Rattle.wire.specs.Spans.{no_span, tape_frame}
-use Rattle.wire.proofs.Shown.{absent}
-use Rattle.wire.proofs.Tapes.{none_filled}
+use Rattle.wire.specs.PostedBytes.{no_span, tape_frame}
+use Rattle.wire.proofs.RosterLemmas.{absent}
+use Rattle.wire.proofs.TapeLemmas.{none_filled}
 use Rattle.wire.proofs.tape.Tape.new.Goals as goal
 
 pub returns-in_err-new : goal.returns-in_err-new

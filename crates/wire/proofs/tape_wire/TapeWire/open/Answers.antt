@@ -1,7 +1,7 @@
 use Rattle.std.proofs.Common.{arith}
-use Rattle.wire.specs.Spans.{tape_frame}
-use Rattle.wire.proofs.Shown.{absent}
-use Rattle.wire.proofs.Tapes.{none_filled}
+use Rattle.wire.specs.PostedBytes.{tape_frame}
+use Rattle.wire.proofs.RosterLemmas.{absent}
+use Rattle.wire.proofs.TapeLemmas.{none_filled}
 use Rattle.wire.proofs.tape_wire.TapeWire.open.Goals as goal
 
 pub invariant_of-self : goal.invariant_of-self

@@ -1,0 +1,2 @@
+mod CallLemmas
+pub mod SlotLemmas

@@ -1,0 +1,2 @@
+pub mod CallLists
+pub mod OrdersInHand

@@ -1,0 +1,192 @@
+// Calls, as they are made on a ringing.
+ghost use Rattle.std.specs.Prelude.{◌≡◌, ◌<◌, ◌++◌, if◌then◌else◌, map, length, drop, set, OnOk, OnErr};
+ghost use Rattle.base.specs.declared.refusal.Refusal.TheVariants as refusal;
+ghost use Rattle.machine.specs.Places.{place_state};
+ghost use Rattle.promise.specs.declared.request.Request.TheVariants as request;
+ghost use Rattle.machine.specs.RowCheck.{bad_row};
+ghost use Rattle.machine.specs.OrderCalls.{on_report};
+ghost use Rattle.base.specs.Results.{answer, or_kept};
+ghost use Rattle.promise.specs.CallSteps.{StepsTo, done_answer, state_after, answers_to};
+ghost use Rattle.promise.specs.CallLog.{log_after};
+ghost use Rattle.promise.specs.Promise.{OneRing};
+ghost use Rattle.promise.specs.PromiseLaws.{FollowsRule};
+ghost use Rattle.ringing.specs.OrderAnswers.{report_answer, report_reply};
+ghost use Rattle.ringing.specs.RingingStates.{state_of};
+ghost use Rattle.call_lists.specs.OrdersInHand.{orders_out, report_blow, orders_put_back, HasFreeSlot};
+ghost use Rattle.call_lists.specs.CallLists.{on_calls, HoldsFromMake};
+
+use super::hand::{are_out, keep, take_order};
+use frames::LONGEST_FRAME;
+use proposals::Proposal;
+use base::Refusal;
+use ringing::{Ringing, StrikeOrder};
+use machine::Place;
+use promise::{Reply, Request, promise_laws};
+use sets::{BoxNumber, RoundNumber};
+use wire::Wire;
+
+// A round, with so many line bytes; more than the longest frame takes are not needed.
+fn play_round<W: Wire, K: Proposal>(
+    ringing: &mut Ringing<W>,
+    row: &mut [Place<K>],
+    room: usize,
+) -> Result<(), Refusal>
+    ensures { let s = state_of ringing.old row.old in StepsTo K.kind (request.Round room) s (done_answer result) (state_of ringing.new row.new) }
+{
+    let mut line = [0; LONGEST_FRAME];
+    ringing.round(row, &mut line[..room.min(LONGEST_FRAME)])
+}
+
+// Draws the order of box p and puts it into its slot.
+fn draw_order<W: Wire, K: Proposal>(
+    ringing: &Ringing<W>,
+    row: &mut [Place<K>],
+    orders: &mut [Option<StrikeOrder>],
+    p: BoxNumber,
+) -> Result<Reply<K>, Refusal>
+    requires { orders.old ≡ orders_out (map place_state row.old) }
+    ensures steps { let s = state_of ringing.now row.old in StepsTo K.kind (request.Draw p) s result (state_of ringing.now row.new) }
+    ensures orders { orders.new ≡ orders_out (map place_state row.new) }
+{
+    let order = ringing.draw(row, p)?;
+    let round = order.round();
+    keep(&mut orders[p.0 as usize], order);
+    Ok(Reply::Drawn(round))
+}
+
+// Reports an order as struck or as missed. A refusal returns it.
+fn give_back<W: Wire, K: Proposal>(
+    ringing: &Ringing<W>,
+    row: &mut [Place<K>],
+    order: StrikeOrder,
+    is_struck: bool,
+) -> Result<(), (StrikeOrder, Refusal)>
+    ensures answer { let s = state_of ringing.now row.old in result ≡ report_answer order (on_report (report_blow is_struck) order.number order.round s) }
+    ensures state { let s = state_of ringing.now row.old in state_of ringing.now row.new ≡ or_kept s (on_report (report_blow is_struck) order.number order.round s) }
+{
+    if is_struck {
+        ringing.struck(row, order)
+    } else {
+        ringing.missed(row, order)
+    }
+}
+
+// The reply to a report. An order that is returned is put back into its slot.
+fn settle<K: Proposal>(
+    orders: &mut [Option<StrikeOrder>],
+    reported: Result<(), (StrikeOrder, Refusal)>,
+) -> Result<Reply<K>, Refusal>
+    requires { HasFreeSlot reported orders.old }
+    ensures reply { result ≡ report_reply reported }
+    ensures orders { orders.new ≡ orders_put_back reported orders.old }
+{
+    match reported {
+        Ok(()) => Ok(Reply::Done),
+        Err((order, refusal)) => {
+            keep(&mut orders[order.number().0 as usize], order);
+            Err(refusal)
+        }
+    }
+}
+
+// The refusal that an order which is not out meets.
+#[tactic(auto, unfolding(machine::specs::AskCall::on_ask))]
+fn why_not<W: Wire, K: Proposal>(ringing: &Ringing<W>, row: &[Place<K>], p: BoxNumber) -> Refusal
+    ensures { let s = state_of ringing.now row.now in result ≡ (if bad_row s then refusal.Row else refusal.Order) }
+{
+    match ringing.ask(row, p) {
+        Err(Refusal::Row) => Refusal::Row,
+        _ => Refusal::Order,
+    }
+}
+
+// Reports the order of box p and this round, if it is in hand. One that is not was not drawn, or is reported already: it cannot be given back, and the
+// reply is the refusal that a call with it would meet.
+fn report<W: Wire, K: Proposal>(
+    ringing: &Ringing<W>,
+    row: &mut [Place<K>],
+    orders: &mut [Option<StrikeOrder>],
+    order: (BoxNumber, RoundNumber),
+    is_struck: bool,
+) -> Result<Reply<K>, Refusal>
+    requires { orders.old ≡ orders_out (map place_state row.old) }
+    ensures answer { let s = state_of ringing.now row.old in result ≡ done_answer (on_report (report_blow is_struck) order.0 order.1 s) }
+    ensures state { let s = state_of ringing.now row.old in state_of ringing.now row.new ≡ or_kept s (on_report (report_blow is_struck) order.0 order.1 s) }
+    ensures orders { orders.new ≡ orders_out (map place_state row.new) }
+{
+    let (p, round) = order;
+    match take_order(orders, p, round) {
+        Some(order) => {
+            let reported = give_back(ringing, row, order, is_struck);
+            settle(orders, reported)
+        }
+        None => Err(why_not(ringing, row, p)),
+    }
+}
+
+// Makes a call.
+fn make_call<W: Wire, K: Proposal>(
+    ringing: &mut Ringing<W>,
+    row: &mut [Place<K>],
+    orders: &mut [Option<StrikeOrder>],
+    request: Request,
+) -> Result<Reply<K>, Refusal>
+    requires { orders.old ≡ orders_out (map place_state row.old) }
+    ensures steps { let s = state_of ringing.old row.old in StepsTo K.kind request s result (state_of ringing.new row.new) }
+    ensures orders { orders.new ≡ orders_out (map place_state row.new) }
+{
+    match request {
+        Request::Fall(q, lost) => {
+            ringing.fall(row, q, lost)?;
+            Ok(Reply::Done)
+        }
+        Request::Round(room) => {
+            play_round(ringing, row, room)?;
+            Ok(Reply::Done)
+        }
+        Request::Ask(p) => Ok(Reply::Told(ringing.ask(row, p)?)),
+        Request::Draw(p) => draw_order(ringing, row, orders, p),
+        Request::Struck(p, round) => report(ringing, row, orders, (p, round), true),
+        Request::Missed(p, round) => report(ringing, row, orders, (p, round), false),
+    }
+}
+
+// Writes one answer, by itself, since the prover bounds the place in memory of an element of unknown size only in a function that does no more.
+fn put<K: Proposal>(
+    answers: &mut [Result<Reply<K>, Refusal>],
+    index: usize,
+    answer: Result<Reply<K>, Refusal>,
+)
+    requires { index < length answers.old }
+    ensures { answers.new ≡ set answers.old index answer }
+{
+    answers[index] = answer;
+}
+
+// Makes calls on a ringing, one after another, and writes what each answers into the places given. The orders in hand, a slot for each box, are those
+// that are out; draws put more there, and reports take them from there. It refuses the row if the slots hold other orders, or are not as many as the
+// places, or if there are fewer places for answers than calls; then nothing changes. Where a make and calls led up to it, what the make promises holds
+// of its end.
+pub fn make_calls<W: Wire, K: Proposal>(
+    ringing: &mut Ringing<W>,
+    row: &mut [Place<K>],
+    orders: &mut [Option<StrikeOrder>],
+    calls: &[Request],
+    answers: &mut [Result<Reply<K>, Refusal>],
+) -> Result<(), Refusal>
+    ensures answer { let s = state_of ringing.old row.old in result ≡ answer (on_calls K.kind calls.now orders.old (length answers.old) s) }
+    ensures state { let s = state_of ringing.old row.old in OnOk result (state_of ringing.new row.new ≡ state_after K.kind calls.now s) }
+    ensures answers { let s = state_of ringing.old row.old in OnOk result (answers.new ≡ answers_to K.kind calls.now s ++ drop (length calls.now) answers.old) }
+    ensures orders { OnOk result (orders.new ≡ orders_out (map place_state row.new)) }
+    ensures refused { OnErr result ((ringing.new ≡ ringing.old) × (row.new ≡ row.old) × (orders.new ≡ orders.old) × (answers.new ≡ answers.old)) }
+    ensures promised { let s = state_of ringing.old row.old in let end = state_of ringing.new row.new in OnOk result (HoldsFromMake K.kind s (λ unopened course. let then = log_after calls.now answers.new course in FollowsRule K.kind unopened end then × OneRing K.kind end then.history)) }
+{
+    let _ = promise_laws::<K>();
+    if answers.len() < calls.len() || !are_out(row, orders) {
+        return Err(Refusal::Row);
+    }
+    for (index, request) in calls.iter().enumerate() {
+        put(answers, index, make_call(ringing, row, orders, *request));
+    }
+    Ok(())
+}

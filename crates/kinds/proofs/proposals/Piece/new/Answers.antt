@@ -1,8 +1,0 @@
-use Rattle.std.proofs.Common.{sym, ap}
-use Rattle.std.specs.Option.{ok_or}
-use Rattle.numbers.specs.declared.refusal.Refusal.TheVariants.{Image}
-use Rattle.kinds.specs.ValuesLemmas.{piece_at_lem}
-use Rattle.kinds.proofs.proposals.Piece.new.Goals as goal
-
-pub returns : goal.returns
-returns c = sym (ap (λ o. ok_or o Image) (piece_at_lem _))

@@ -1,4 +1,0 @@
-pub mod Orders
-pub mod Pieces
-pub mod Calls
-pub mod ValuesLemmas

@@ -1,0 +1,9 @@
+pub mod AskCall
+pub mod FallCall
+pub mod MachineLaws
+pub mod MakeCall
+pub mod OrderCalls
+pub mod Places
+pub mod RoundCall
+pub mod RowCheck
+pub mod State

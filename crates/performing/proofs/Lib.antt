@@ -1,2 +1,0 @@
-pub mod Hands
-mod Making

@@ -1,7 +1,0 @@
-// A list of calls on a ringing, made one after another.
-#![tactic(auto)]
-
-mod calls;
-mod hand;
-
-pub use calls::perform;

@@ -1,4 +1,0 @@
-pub mod Plays
-pub mod Theorems
-pub mod Answers
-pub mod Examples

@@ -1,0 +1,5 @@
+pub mod CallLog
+pub mod CallSteps
+pub mod Promise
+pub mod PromiseLaws
+pub mod StateByHistory

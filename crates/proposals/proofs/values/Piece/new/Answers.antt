@@ -1,0 +1,8 @@
+use Rattle.std.proofs.Common.{sym, ap}
+use Rattle.std.specs.Option.{ok_or}
+use Rattle.base.specs.declared.refusal.Refusal.TheVariants.{Image}
+use Rattle.proposals.specs.ProposalLemmas.{piece_at_lem}
+use Rattle.proposals.proofs.values.Piece.new.Goals as goal
+
+pub returns : goal.returns
+returns c = sym (ap (λ o. ok_or o Image) (piece_at_lem _))

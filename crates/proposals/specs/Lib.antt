@@ -1,0 +1,5 @@
+pub mod Calls
+pub mod Kinds
+pub mod Orders
+pub mod Pieces
+pub mod ProposalLemmas

@@ -1,4 +1,0 @@
-pub mod Places
-pub mod Numbered
-pub mod Calls
-pub mod Theorems

@@ -1,8 +1,0 @@
-// The row of a ringing: what stands at the place of each box, which row is refused, and what each call makes of it, as definitions.
-#![tactic(auto)]
-
-mod place;
-mod theorems;
-
-pub use place::{Blow, Place, Rung, Standing, is_over};
-pub use theorems::rows_stand;

@@ -1,8 +1,0 @@
-// Lists of calls on a ringing, accepted or refused, and the history that they give.
-#![tactic(auto)]
-
-mod request;
-mod theorems;
-
-pub use request::{Reply, Request};
-pub use theorems::calls_follow;

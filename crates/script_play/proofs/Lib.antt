@@ -1,0 +1,9 @@
+mod AnswersComputed
+mod CallByCall
+mod EntryByEntry
+mod EntryLemmas
+mod FallsOfRound
+mod MakeForScript
+mod ReportOfScript
+mod RingingRoundOfScript
+mod RoundOfScript

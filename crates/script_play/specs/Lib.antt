@@ -1,0 +1,4 @@
+pub mod AnswerExamples
+pub mod Answers
+pub mod PlayLaws
+pub mod ScriptCalls
