@@ -2,6 +2,7 @@
 use Rattle.std.specs.Prelude.{⊤, Ok, Err, Result}
 use Rattle.std.specs.Result.{result_map_both, result_unwrap_or}
 use Rattle.base.specs.declared.refusal.Refusal.{Refusal}
+use Rattle.base.specs.declared.refused.Refused.{Refused}
 
 -- to go on with what was read, or to end with its fault, as another where it comes up into a layer above
 abbrev pub and_then : {X Y D E : Type 0} → (D → E) → Result X D → (X → Result Y E) → Result Y E
@@ -24,3 +25,7 @@ answer r = result_map_both (λ _. tt) (λ e. e) r
 -- what it leaves: what it makes of the state before, or that state where it is refused
 abbrev pub or_kept : {S : Type 0} → S → Result S Refusal → S
 or_kept s r = result_unwrap_or r s
+
+-- a fault with the value that the refused call gives back
+abbrev pub refused_with : {T E : Type 0} → T → E → Refused T E
+refused_with x e = record { value = x; fault = e }

@@ -1,7 +1,7 @@
 // A listening box: it hears frames and closes its round.
 ghost use Rattle.std.specs.Prelude.{◌≡◌, ⊤};
 ghost use Rattle.std.specs.Result.{result_map_both, result_unwrap_or};
-ghost use Rattle.base.specs.Results.{map_fault};
+ghost use Rattle.base.specs.Results.{map_fault, refused_with};
 ghost use Rattle.frames.specs.Frames.{read_frame};
 ghost use Rattle.boxes.specs.Boxes.{next_round};
 ghost use Rattle.boxes.specs.BoxRounds.{round_fault, own_fault, bad_set, frame_verdict, notes_with, on_hear, outcome, unheard_boxes, on_close};
@@ -10,7 +10,7 @@ use super::fault::{BoxFault, OwnFault, RoundFault};
 use super::states::{Closed, Held, Listening, Notes, Resting};
 use frames::{Frame, read_frame};
 use proposals::Proposal;
-use base::Refusal;
+use base::{Refusal, Refused};
 use sets::{BoxNumber, BoxSet, RoundNumber};
 use std::alloc::AllocError;
 
@@ -131,14 +131,17 @@ impl<K: Proposal> Listening<K> {
 
     // Closes the round by the frames heard; where the tally is refused the box goes on listening as it was.
     #[tactic(auto, unfolding(crate::specs::BoxRounds::on_close, crate::specs::BoxRounds::close_with))]
-    pub fn close(self) -> Result<Closed<K>, (Listening<K>, BoxFault)>
-        ensures { result_map_both outcome (λ e. e) result ≡ map_fault (λ e. (self, e)) (on_close self.resting.held self.notes) }
+    pub fn close(self) -> Result<Closed<K>, Refused<Listening<K>, BoxFault>>
+        ensures { result_map_both outcome (λ e. e) result ≡ map_fault (refused_with self) (on_close self.resting.held self.notes) }
     {
         let Held { t, horizon, .. } = self.resting.held;
         let known = self.notes.known;
         let unheard = self.unheard();
         if unheard.count() > t || !known.is_subset(unheard) {
-            return Err((self, BoxFault::Own(self.own_fault(Refusal::Tally))));
+            return Err(Refused {
+                value: self,
+                fault: BoxFault::Own(self.own_fault(Refusal::Tally)),
+            });
         }
         let round = self.round();
         let best = horizon.min(RoundNumber(round.0 + t - known.count()));

@@ -1,4 +1,5 @@
 -- The orders in hand beside a row. Assumes nothing.
+use Rattle.base.specs.declared.refused.Refused.{Refused}
 use Rattle.std.specs.Bool.{⊤}
 use Rattle.std.proofs.Common.{◌≡◌, ℕ, zero, suc, ◌<◌, Bool, true, false, cond, not, ◌&&◌, eqb, ◌⊎◌, List, [], ◌∷◌, length, map, set, get_or, Some, None, Ok, Err, Option, option_map, Result, sym, refl, ap, ◌∙◌, subst, inl, inr, ◌≤◌, arith}
 use Rattle.std.specs.List.{slice_get}
@@ -305,7 +306,7 @@ told_new false = refl
 
 module _ {K : Type 0} (s : State K) (p : BoxNumber) (r : RoundNumber) (b : Blow) (orders : List (Option StrikeOrder)) where
   -- of an order that was in hand
-  module _ (o : StrikeOrder) (z : Result ⊤ (StrikeOrder × Refusal)) (told : z ≡ report_answer o (on_report b o.number o.round s)) (hand : orders ≡ orders_out s.row)
+  module _ (o : StrikeOrder) (z : Result ⊤ (Refused StrikeOrder Refusal)) (told : z ≡ report_answer o (on_report b o.number o.round s)) (hand : orders ≡ orders_out s.row)
       (some : Some o ≡ order_in_hand p r orders) where
     taken : Taken s p r o
     taken = was_taken s p r o (some ∙ ap (order_in_hand p r) hand)

@@ -2,6 +2,7 @@
 use Rattle.std.specs.Prelude.{◌≡◌, ℕ, ◌<◌, Bool, true, false, if◌then◌else◌, not, ◌&&◌, List, length, get_or, set, Some, None, Option, option_map, Ok, Err, Result, IfErr, ◌==◌}
 use Rattle.std.specs.Bool.{⊤}
 use Rattle.base.specs.declared.refusal.Refusal.{Refusal}
+use Rattle.base.specs.declared.refused.Refused.{Refused}
 use Rattle.sets.specs.declared.box_number.BoxNumber.{BoxNumber}
 use Rattle.sets.specs.declared.round_number.RoundNumber.{RoundNumber}
 use Rattle.machine.specs.declared.place.Blow.{Blow}
@@ -58,10 +59,10 @@ report_blow true = blow.Struck
 report_blow false = blow.Missed
 
 -- an order that is refused is put back into its slot
-abbrev pub orders_put_back : Result ⊤ (StrikeOrder × Refusal) → List (Option StrikeOrder) → List (Option StrikeOrder)
+abbrev pub orders_put_back : Result ⊤ (Refused StrikeOrder Refusal) → List (Option StrikeOrder) → List (Option StrikeOrder)
 orders_put_back (Ok _) orders = orders
-orders_put_back (Err e) orders = set orders e.0.number.0 (Some e.0)
+orders_put_back (Err e) orders = set orders e.value.number.0 (Some e.value)
 
 -- where an order is refused, its slot is there and free
-abbrev pub HasFreeSlot : Result ⊤ (StrikeOrder × Refusal) → List (Option StrikeOrder) → Type 0
-HasFreeSlot r orders = IfErr r (λ e. (e.0.number.0 < length orders) × (get_or orders e.0.number.0 None ≡ None))
+abbrev pub HasFreeSlot : Result ⊤ (Refused StrikeOrder Refusal) → List (Option StrikeOrder) → Type 0
+HasFreeSlot r orders = IfErr r (λ e. (e.value.number.0 < length orders) × (get_or orders e.value.number.0 None ≡ None))

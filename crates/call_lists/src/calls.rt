@@ -18,7 +18,7 @@ ghost use Rattle.call_lists.specs.CallLists.{on_calls, HoldsFromMake};
 use super::hand::{are_out, keep, take_order};
 use frames::LONGEST_FRAME;
 use proposals::Proposal;
-use base::Refusal;
+use base::{Refusal, Refused};
 use ringing::{Ringing, StrikeOrder};
 use machine::Place;
 use promise::{Reply, Request, promise_laws};
@@ -60,7 +60,7 @@ fn give_back<W: Wire, K: Proposal>(
     row: &mut [Place<K>],
     order: StrikeOrder,
     is_struck: bool,
-) -> Result<(), (StrikeOrder, Refusal)>
+) -> Result<(), Refused<StrikeOrder, Refusal>>
     ensures answer { let s = state_of ringing.now row.old in result ≡ report_answer order (on_report (report_blow is_struck) order.number order.round s) }
     ensures state { let s = state_of ringing.now row.old in state_of ringing.now row.new ≡ or_kept s (on_report (report_blow is_struck) order.number order.round s) }
 {
@@ -74,7 +74,7 @@ fn give_back<W: Wire, K: Proposal>(
 // The reply to a report. An order that is returned is put back into its slot.
 fn settle<K: Proposal>(
     orders: &mut [Option<StrikeOrder>],
-    reported: Result<(), (StrikeOrder, Refusal)>,
+    reported: Result<(), Refused<StrikeOrder, Refusal>>,
 ) -> Result<Reply<K>, Refusal>
     requires { HasFreeSlot reported orders.old }
     ensures reply { result ≡ report_reply reported }
@@ -82,9 +82,9 @@ fn settle<K: Proposal>(
 {
     match reported {
         Ok(()) => Ok(Reply::Done),
-        Err((order, refusal)) => {
-            keep(&mut orders[order.number().0 as usize], order);
-            Err(refusal)
+        Err(Refused { value, fault }) => {
+            keep(&mut orders[value.number().0 as usize], value);
+            Err(fault)
         }
     }
 }

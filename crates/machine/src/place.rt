@@ -2,6 +2,7 @@
 ghost use Rattle.std.specs.Prelude.{◌≡◌};
 ghost use Rattle.boxes.specs.BoxRounds.{outcome};
 ghost use Rattle.std.specs.List.{list_any};
+ghost use Rattle.machine.specs.declared.place.Place.TheVariants as place;
 ghost use Rattle.machine.specs.Places.{place_state, state_of_outcome, standing_of, standing_word, round_of, proposal_of, rung_of};
 ghost use Rattle.machine.specs.State.{has_rung};
 
@@ -43,6 +44,15 @@ pub enum Standing<K> {
     Up,
     Down(RoundNumber),
     Rung(Rung<K>),
+}
+
+// What stands at a place before there is a ringing.
+impl<K> Default for Place<K> {
+    ghost is_default = { λ x. x ≡ place.Down (record { 0 = 0 }) };
+
+    fn default() -> Place<K> {
+        Place::Down(RoundNumber(0))
+    }
 }
 
 impl<K: Copy> Place<K> {

@@ -34,7 +34,7 @@ module _ {K : Type 0} (kind : Kind K) (unopened : ℕ → Option (List ℕ)) (h 
   s = state_by kind h unopened
 
   pub good : bad_row s ≡ false
-  good = row_good kind h allowed.size kind unopened due allowed.few
+  good = row_good kind h allowed.size unopened due allowed.few
 
   pub rung_is : (p : ℕ) → has_rung (place_by kind h p) ≡ (closes h.falls p h.closed && rule.rings h p h.closed)
   rung_is p = by (cases_Bool (closes h.falls p h.closed)) (cases_Bool (rule.rings h p h.closed))
@@ -42,8 +42,8 @@ module _ {K : Type 0} (kind : Kind K) (unopened : ℕ → Option (List ℕ)) (h 
       by : (closes h.falls p h.closed ≡ true) ⊎ (closes h.falls p h.closed ≡ false) → (rule.rings h p h.closed ≡ true) ⊎ (rule.rings h p h.closed ≡ false)
           → has_rung (place_by kind h p) ≡ (closes h.falls p h.closed && rule.rings h p h.closed)
       by (inr c) r = let f = fallen_stands kind h allowed.size p c in ap has_rung f.3 ∙ (grind arith)
-      by (inl c) (inl r) = ap has_rung (rings_stands kind h allowed.size kind unopened p c r) ∙ (grind arith)
-      by (inl c) (inr r) = ap has_rung (resting_stands kind h allowed.size kind unopened p c r) ∙ (grind arith)
+      by (inl c) (inl r) = ap has_rung (rings_stands kind h allowed.size unopened p c r) ∙ (grind arith)
+      by (inl c) (inr r) = ap has_rung (resting_stands kind h allowed.size unopened p c r) ∙ (grind arith)
 
   -- what stands at a place of the company
   stands : (p : ℕ) → p < h.n → slice_get (row_by kind h) p ≡ Some (place_by kind h p)
@@ -63,9 +63,9 @@ module _ {K : Type 0} (kind : Kind K) (unopened : ℕ → Option (List ℕ)) (h 
       by : (closes h.falls p h.closed ≡ true) ⊎ (closes h.falls p h.closed ≡ false) → (rule.rings h p h.closed ≡ true) ⊎ (rule.rings h p h.closed ≡ false)
           → (x.round.0 ≡ h.closed) × (x.proposal ≡ rule.estimate h kind p h.closed) × (x.blow ≡ blow.Undrawn)
       by (inr c) r = absurd (let f = fallen_stands kind h allowed.size p c in let e = f.3 in grind (arith, here))
-      by (inl c) (inr r) = absurd (let e = resting_stands kind h allowed.size kind unopened p c r in grind (arith, here))
+      by (inl c) (inr r) = absurd (let e = resting_stands kind h allowed.size unopened p c r in grind (arith, here))
       by (inl c) (inl r) =
-          let e : rung (record { round = record { 0 = h.closed }; proposal = rule.estimate h kind p h.closed; blow = blow.Undrawn }) ≡ rung x = sym (rings_stands kind h allowed.size kind unopened p c r) ∙ here in
+          let e : rung (record { round = record { 0 = h.closed }; proposal = rule.estimate h kind p h.closed; blow = blow.Undrawn }) ≡ rung x = sym (rings_stands kind h allowed.size unopened p c r) ∙ here in
           let same = rung_same _ x e in
           (ap (λ y. y.round.0) (sym same), ap (λ y. y.proposal) (sym same), ap (λ y. y.blow) (sym same))
 
@@ -81,15 +81,15 @@ module _ {K : Type 0} (kind : Kind K) (unopened : ℕ → Option (List ℕ)) (h 
           let r = any_none (λ p. closes h.falls p h.closed && rule.rings h p h.closed) h.n none p k in
           ap has_rung (sym same) ∙ rung_is p ∙ r
 
-      kind : (k : ℕ) × (k < h.n) × ((closes h.falls k h.closed && rule.rings h k h.closed) ≡ true) → is_over s ≡ true
-      kind (k, l, e) = from (is_over s) refl
+      one_rings : (k : ℕ) × (k < h.n) × ((closes h.falls k h.closed && rule.rings h k h.closed) ≡ true) → is_over s ≡ true
+      one_rings (k, l, e) = from (is_over s) refl
         where
           from : (t : Bool) → is_over s ≡ t → is_over s ≡ true
           from true is = is
           from false is = absurd (both_ways (has_rung (place_by kind h k)) (list_none has_rung (row_by kind h) is k (place_by kind h k) (stands k l)) (rung_is k ∙ e))
 
       by : (t : Bool) → somebody_rings h ≡ t → is_over s ≡ somebody_rings h
-      by true is = kind.named (any_has (λ p. closes h.falls p h.closed && rule.rings h p h.closed) h.n is) ∙ sym is
+      by true is = one_rings (any_has (λ p. closes h.falls p h.closed && rule.rings h p h.closed) h.n is) ∙ sym is
       by false is = none_list has_rung (row_by kind h) (at_is is) ∙ sym is
 
   pub rounds_are : (room : ℕ) → is_ok (on_round kind room s) ≡ (leb longest_frame room && not (somebody_rings h))
@@ -101,7 +101,7 @@ module _ {K : Type 0} (kind : Kind K) (unopened : ℕ → Option (List ℕ)) (h 
   falls_are q lost =
       let g = good in
       let o = over_is in
-      let c = gone_counted kind h allowed.size kind unopened due in
+      let c = gone_counted kind h allowed.size unopened due in
       let d = due q.0 in
-      let fell : q.0 < h.n → is_gone s.wire q.0 ≡ is_some (h.falls q.0) = λ l. gone_is kind h allowed.size kind unopened q.0 l ∙ sym d in
+      let fell : q.0 < h.n → is_gone s.wire q.0 ≡ is_some (h.falls q.0) = λ l. gone_is kind h allowed.size unopened q.0 l ∙ sym d in
       grind (arith, nat_tests)

@@ -20,7 +20,7 @@ use Rattle.promise.proofs.StateByPlace.{at_place}
 use Rattle.promise.proofs.KeptFromCallToCall.{Going, Kept}
 use Rattle.proposals.specs.Kinds.{Kind}
 
-module _ {K : Type 0} (kind : Kind K) (h : History K) (limits : is_company h.n h.t ≡ true) (kind : Kind K) (unopened : ℕ → Option (List ℕ)) where
+module _ {K : Type 0} (kind : Kind K) (h : History K) (limits : is_company h.n h.t ≡ true) (unopened : ℕ → Option (List ℕ)) where
   abbrev base : State K
   base = state_by kind h unopened
 

@@ -10,6 +10,6 @@ done_ok K (Ok x) = refl
 done_ok K (Err e) = refl
 
 -- and says so of the answer alone
-pub done_answer : (K : Type 0) {X : Type 0} (r : Result X Refusal) → done_answer {K = K} (answer r) ≡ done_answer r
-done_answer K (Ok x) = refl
-done_answer K (Err e) = refl
+pub done_of_answer : (K : Type 0) {X : Type 0} (r : Result X Refusal) → done_answer {K = K} (answer r) ≡ done_answer r
+done_of_answer K (Ok x) = refl
+done_of_answer K (Err e) = refl

@@ -74,7 +74,7 @@ module _ {K : Type 0} (kind : Kind K) (unopened : ℕ → Option (List ℕ)) (co
         → Going kind unopened then (record h { falls = with_fall (suc h.closed) q.0 lost h.falls })
     falls q lost then e =
         let t = told q lost by_history then (ap (on_fall q lost) (sym g.is) ∙ e) in
-        let n = n_is kind h g.allowed.size kind unopened in
+        let n = n_is kind h g.allowed.size unopened in
         subst (λ x. Going kind unopened x (record h { falls = with_fall (suc h.closed) q.0 lost h.falls })) (sym t.is)
         (fall_kept kind unopened coming only_past h g.allowed g.quiet g.due q.0 lost (omega (arith, t.placed, n)) t.up (none_of (by_history.wire.lost q.0) t.unfallen) t.spare)
 

@@ -46,8 +46,8 @@ module _ {K : Type 0} (kind : Kind K) (unopened : ℕ → Option (List ℕ)) (co
   module _ (placed : q < h.n) (up : member s.wire.up q ≡ true) (unfallen : s.wire.lost q ≡ None) (spare : gone_count s.wire < h.t) where
     none : h.falls q ≡ None
     none =
-        let u = up_is kind h allowed.size kind unopened q in
-        let l = ap is_some (sym (lost_is kind h allowed.size kind unopened q) ∙ unfallen) in
+        let u = up_is kind h allowed.size unopened q in
+        let l = ap is_some (sym (lost_is kind h allowed.size unopened q) ∙ unfallen) in
         let k = lost_some (suc h.closed) (h.falls q) in
         let a = fell_closes h.falls q h.closed in
         let b = fell_next (h.falls q) (suc h.closed) in
@@ -79,8 +79,8 @@ module _ {K : Type 0} (kind : Kind K) (unopened : ℕ → Option (List ℕ)) (co
 
         by : (eqb p q ≡ true) ⊎ (eqb p q ≡ false) → place_by kind then p ≡ place_by kind h p
         by (inl e) =
-            ap (λ t. place_by_fall (cond t (Some fall_now) (h.falls p)) h.closed (outcome_of then kind.leads p h.closed)) e
-            ∙ ap (λ t. cond t (down fall_now.round) (state_of_outcome (outcome_of then kind.leads p h.closed))) late
+            ap (λ t. place_by_fall (cond t (Some fall_now) (h.falls p)) h.closed (outcome_of then kind p h.closed)) e
+            ∙ ap (λ t. cond t (down fall_now.round) (state_of_outcome (outcome_of then kind p h.closed))) late
             ∙ ap state_of_outcome (outcome_same kind only_past then h h.closed same p h.closed (omega arith))
             ∙ ap (λ o. place_by_fall o h.closed (outcome_of h kind p h.closed)) (sym none ∙ ap h.falls (sym (eqb-true p q e)))
         by (inr e) = (λ j. place_by_fall (cond (e j) (Some fall_now) (h.falls p)) h.closed (outcome_same kind only_past then h h.closed same p h.closed (omega arith) j))
@@ -129,5 +129,5 @@ module _ {K : Type 0} (kind : Kind K) (unopened : ℕ → Option (List ℕ)) (co
         few =
             let e = count_ext (λ k. is_some (falls k)) (λ k. is_some (h.falls k) || eqb k q) h.n (λ k l. more (eqb k q) (h.falls k)) in
             let m = count_more (λ k. is_some (h.falls k)) h.n q placed (ap is_some none) in
-            let g = gone_counted kind h allowed.size kind unopened due in
+            let g = gone_counted kind h allowed.size unopened due in
             omega arith

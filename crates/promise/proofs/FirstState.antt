@@ -115,7 +115,7 @@ module _ {K : Type 0} (kind : Kind K) (begins : (h : History K) → BoxBegins h 
           let k : p < n = grind (arith, nat_tests) in
           ap (option_map (λ v. at_rest (first_held (record { 0 = p }) n t v))) (slice_get-get_or proposals p past_end (let g = c.given in omega arith))
           ∙ ap (λ b. Some (at_rest b)) (held_first p k)
-          ∙ ap Some (sym (resting_stands kind h c.size kind m.posted p (nobody 0 p) (quiet p)))
+          ∙ ap Some (sym (resting_stands kind h c.size m.posted p (nobody 0 p) (quiet p)))
           ∙ ap (λ t. cond t (Some (place_by kind h p)) None) (sym l)
       by p (inr l) =
           ap (option_map (λ v. at_rest (first_held (record { 0 = p }) n t v))) (slice_get_past proposals p (let g = c.given in grind (arith, nat_tests)))

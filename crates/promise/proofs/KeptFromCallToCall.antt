@@ -1,5 +1,5 @@
 -- What is kept from call to call: a ringing with its row is that of its history and its blows. Assumes nothing.
-use Rattle.std.proofs.Common.{◌≡◌, ℕ, suc, Bool, false, List, is_some, Option}
+use Rattle.std.proofs.Common.{◌≡◌, ℕ, suc, false, List, is_some, Option}
 use Rattle.rule.specs.Falls.{fell_before}
 use Rattle.rule.specs.Histories.{History, IsAllowed}
 use Rattle.rule.specs.RuleLaws.{IsQuietBefore}

@@ -1,5 +1,5 @@
 -- One list of calls after another. Assumes nothing.
-use Rattle.std.proofs.Common.{◌≡◌, ℕ, Bool, cond, List, [], ◌∷◌, ◌++◌, is_ok, refl}
+use Rattle.std.proofs.Common.{◌≡◌, cond, List, [], ◌∷◌, ◌++◌, is_ok, refl}
 use Rattle.machine.specs.State.{State}
 use Rattle.promise.specs.declared.request.Request.{Request}
 use Rattle.promise.specs.CallLog.{Answer, Log, with_call, log_after}

@@ -35,7 +35,7 @@ told_place (Some (down r)) x e = absurd (grind arith)
 told_place (Some (rung y)) x e = cc
 
 module _ {K : Type 0} (kind : Kind K) (unopened : ℕ → Option (List ℕ)) (h : History K) (g : Going kind unopened (state_by kind h unopened) h)
-    (blows : ℕ → Blow) (agree : Agreement h kind) (begins : BoxBegins h kind) (rests : BoxRests h kind) (kind : Kind K) (follows : BoxFollowsSent h kind) where
+    (blows : ℕ → Blow) (agree : Agreement h kind) (begins : BoxBegins h kind) (rests : BoxRests h kind) (follows : BoxFollowsSent h kind) where
   abbrev s : State K
   s = with_blows blows (state_by kind h unopened)
 
@@ -135,4 +135,4 @@ pub rings_once : {K : Type 0} (kind : Kind K) (unopened : ℕ → Option (List �
     → OneRing kind s c.history
 rings_once kind unopened s c agree begins rests follows k =
     subst (λ x. OneRing kind x c.history) (sym k.is)
-    (one_ring kind unopened c.history k.going c.blows (agree c.history) (begins c.history) (rests c.history) kind (follows c.history))
+    (one_ring kind unopened c.history k.going c.blows (agree c.history) (begins c.history) (rests c.history) (follows c.history))

@@ -202,7 +202,7 @@ module _ {K : Type 0} (kind : Kind K) (p : ℕ) where
   once (c ∷ calls) s =
       let m = moves kind s p c in
       let ih = once calls (state_after_call kind c s) in
-      (omega (arith, m.draw, ih.0), λ k. omega (arith, laws.back k, ih.1 k))
+      (omega (arith, m.draw, ih.0), λ k. omega (arith, m.back k, ih.1 k))
 
 -- in a row of a ringing that is made no order is out
 none_out : {K : Type 0} (n t places : ℕ) (m : WireState) (proposals : List K) (s : State K) → on_make n t m places proposals ≡ Ok s

@@ -66,13 +66,13 @@ module _ {K : Type 0} (kind : Kind K) (unopened : ℕ → Option (List ℕ)) (h 
         by (inr e) = e
         by (inl e) =
             let there : slice_get (row_by kind h) p ≡ Some (state_of_outcome (rings (record { 0 = h.closed }) (rule.estimate h kind p h.closed))) =
-            at_place kind h allowed.size p ∙ ap (λ t. cond t (Some (place_by kind h p)) None) (let k : ltb p h.n ≡ true = grind (arith, nat_tests) in k) ∙ ap Some (rings_stands kind h allowed.size kind unopened p c e) in
+            at_place kind h allowed.size p ∙ ap (λ t. cond t (Some (place_by kind h p)) None) (let k : ltb p h.n ≡ true = grind (arith, nat_tests) in k) ∙ ap Some (rings_stands kind h allowed.size unopened p c e) in
             absurd (both_ways (has_rung (state_of_outcome (rings (record { 0 = h.closed }) (rule.estimate h kind p h.closed)))) (list_none has_rung s.row still p _ there) refl)
 
     at_rest_there : (p : ℕ) → p < h.n → closes h.falls p h.closed ≡ true → slice_get (row_by kind h) p ≡ Some (at_rest (held_after h kind p h.closed))
     at_rest_there p l c =
         at_place kind h allowed.size p ∙ ap (λ t. cond t (Some (place_by kind h p)) None) (let k : ltb p h.n ≡ true = grind (arith, nat_tests) in k)
-        ∙ ap Some (resting_stands kind h allowed.size kind unopened p c (silent p l c))
+        ∙ ap Some (resting_stands kind h allowed.size unopened p c (silent p l c))
 
     sent_is : (q : ℕ) → q < h.n → closes h.falls q h.closed ≡ true → sent_frame s q ≡ Some (frame_after h kind q h.closed)
     sent_is q l c = ap frame_at (at_rest_there q l c)
@@ -82,8 +82,8 @@ module _ {K : Type 0} (kind : Kind K) (unopened : ℕ → Option (List ℕ)) (h 
     hears_same : (p q : ℕ) → closes h.falls p (suc h.closed) ≡ true → hears_on s.wire p q ≡ hears_of_company h p (suc h.closed) q
     unfolding hears
     hears_same p q c =
-        let u = up_is kind h allowed.size kind unopened q in
-        let l = ap (is_in p) (lost_is kind h allowed.size kind unopened q) ∙ lost_holds (suc h.closed) p (h.falls q) in
+        let u = up_is kind h allowed.size unopened q in
+        let l = ap (is_in p) (lost_is kind h allowed.size unopened q) ∙ lost_holds (suc h.closed) p (h.falls q) in
         let b = fell_closes h.falls q h.closed in
         let o = unheard_open h.falls q (suc h.closed) p in
         let own : eqb q p ≡ true → closes h.falls q (suc h.closed) ≡ true = λ e. ap (λ x. closes h.falls x (suc h.closed)) (eqb-true q p e) ∙ c in
@@ -99,7 +99,7 @@ module _ {K : Type 0} (kind : Kind K) (unopened : ℕ → Option (List ℕ)) (h 
 
         by : (hears_on s.wire p q ≡ true) ⊎ (hears_on s.wire p q ≡ false) → cond (hears_on s.wire p q) (sent_frame s q) None ≡ cond (hears_of_company h p (suc h.closed) q) (Some (frame_after h kind q h.closed)) None
         by (inl e) =
-            let u = up_is kind h allowed.size kind unopened q in
+            let u = up_is kind h allowed.size unopened q in
             ap (λ t. cond t (sent_frame s q) None) e ∙ sent_is q (grind (arith, nat_tests)) (grind arith)
             ∙ ap (λ t. cond t (Some (frame_after h kind q h.closed)) None) (sym (sym same ∙ e))
         by (inr e) = ap (λ t. cond t (sent_frame s q) None) e ∙ ap (λ t. cond t (Some (frame_after h kind q h.closed)) None) (sym (sym same ∙ e))
@@ -108,8 +108,8 @@ module _ {K : Type 0} (kind : Kind K) (unopened : ℕ → Option (List ℕ)) (h 
 
     up_so : (i : ℕ) → (member s.wire.up i && not (is_some (s.wire.lost i))) ≡ (ltb i h.n && closes h.falls i (suc h.closed))
     up_so i =
-        let u = up_is kind h allowed.size kind unopened i in
-        let l = ap is_some (lost_is kind h allowed.size kind unopened i) ∙ lost_some (suc h.closed) (h.falls i) in
+        let u = up_is kind h allowed.size unopened i in
+        let l = ap is_some (lost_is kind h allowed.size unopened i) ∙ lost_some (suc h.closed) (h.falls i) in
         let a = fell_closes h.falls i h.closed in
         let b = fell_closes h.falls i (suc h.closed) in
         let n = fell_next (h.falls i) (suc h.closed) in
@@ -126,12 +126,12 @@ module _ {K : Type 0} (kind : Kind K) (unopened : ℕ → Option (List ℕ)) (h 
         by (f, e, k, is) =
             let late : true ≡ leb f.round.0 (suc h.closed) = grind (arith, nat_tests) in
             ap (place_after kind s p) is
-            ∙ ap (λ t. cond t (down f.round) (state_of_outcome (outcome_of then kind.leads p (suc h.closed)))) late
-            ∙ ap (λ o. place_by_fall o (suc h.closed) (outcome_of then kind.leads p (suc h.closed))) (sym e)
+            ∙ ap (λ t. cond t (down f.round) (state_of_outcome (outcome_of then kind p (suc h.closed)))) late
+            ∙ ap (λ o. place_by_fall o (suc h.closed) (outcome_of then kind p (suc h.closed))) (sym e)
 
     falls_so : (p : ℕ) → p < h.n → closes h.falls p h.closed ≡ true → closes h.falls p (suc h.closed) ≡ false → place_after kind s p (place_by kind h p) ≡ place_by kind then p
     falls_so p l c d =
-        ap (place_after kind s p) (resting_stands kind h allowed.size kind unopened p c (silent p l c))
+        ap (place_after kind s p) (resting_stands kind h allowed.size unopened p c (silent p l c))
         ∙ by (fallen_stands kind then allowed.size p d)
       where
         rested : PlaceState K
@@ -145,16 +145,16 @@ module _ {K : Type 0} (kind : Kind K) (unopened : ℕ → Option (List ℕ)) (h 
         by (f, e, k, is) =
             let r = round_is f e k in
             let i : fell_in (h.falls p) (suc h.closed) ≡ true = ap (λ o. fell_in o (suc h.closed)) e ∙ grind (arith, nat_tests) in
-            let t : is_some (s.wire.lost p) ≡ true = ap is_some (lost_is kind h allowed.size kind unopened p) ∙ lost_some (suc h.closed) (h.falls p) ∙ i in
+            let t : is_some (s.wire.lost p) ≡ true = ap is_some (lost_is kind h allowed.size unopened p) ∙ lost_some (suc h.closed) (h.falls p) ∙ i in
             ap (λ t. cond t (down (round_to_come s)) rested) t ∙ (λ j. down (record { 0 = sym r j })) ∙ sym is
 
     closing_so : (p : ℕ) → p < h.n → closes h.falls p (suc h.closed) ≡ true → place_after kind s p (place_by kind h p) ≡ place_by kind then p
     closing_so p l d =
         let c = closed_before h.falls p h.closed d in
         let u = up_so p in
-        let t : is_some (s.wire.lost p) ≡ false = (let v = up_is kind h allowed.size kind unopened p in grind arith) in
+        let t : is_some (s.wire.lost p) ≡ false = (let v = up_is kind h allowed.size unopened p in grind arith) in
         let b = held_after h kind p h.closed in
-        ap (place_after kind s p) (resting_stands kind h allowed.size kind unopened p c (silent p l c))
+        ap (place_after kind s p) (resting_stands kind h allowed.size unopened p c (silent p l c))
         ∙ ap (λ t. cond t (down (round_to_come s)) (state_of_outcome (outcome_by_frames kind b (frames_heard_by s p)))) t
         ∙ ap state_of_outcome (
         ap (outcome_by_frames kind b) (λ j q. heard_is p q d l j)
@@ -194,12 +194,12 @@ module _ {K : Type 0} (kind : Kind K) (unopened : ℕ → Option (List ℕ)) (h 
     posted_so : (i : ℕ) → cond (member s.wire.up i) (option_map (frame_bytes kind) (sent_frame s i)) None ≡ posted_by kind then unopened (suc h.closed) i
     unfolding posted_by
     posted_so i =
-        let u = up_is kind h allowed.size kind unopened i in
+        let u = up_is kind h allowed.size unopened i in
         let b = fell_closes h.falls i h.closed in
         by (ltb i h.n && not (fell_before (h.falls i) (suc h.closed))) refl (grind arith)
       where
         by : (t : Bool) → (ltb i h.n && not (fell_before (h.falls i) (suc h.closed))) ≡ t → member s.wire.up i ≡ t
-            → cond (member s.wire.up i) (option_map (frame_bytes kind) (sent_frame s i)) None ≡ cond t (Some (frame_bytes kind (frame_after then kind.leads i h.closed))) None
+            → cond (member s.wire.up i) (option_map (frame_bytes kind) (sent_frame s i)) None ≡ cond t (Some (frame_bytes kind (frame_after then kind i h.closed))) None
         by false e u = ap (λ t. cond t (option_map (frame_bytes kind) (sent_frame s i)) None) u
         by true e u =
             let c = fell_closes h.falls i h.closed in

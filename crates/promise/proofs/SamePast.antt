@@ -1,5 +1,5 @@
 -- Histories that are the same up to some round have the same values up to it. Assumes nothing.
-use Rattle.std.proofs.Common.{◌≡◌, ℕ, ◌≤◌, Bool, cond, eqb, sym, ap, ◌∙◌}
+use Rattle.std.proofs.Common.{◌≡◌, ℕ, ◌≤◌, cond, eqb, sym, ap, ◌∙◌}
 use Rattle.boxes.specs.BoxRounds.{rests, rings}
 use Rattle.rule.specs.Falls.{closes}
 use Rattle.rule.specs.Histories.{History, as_of}

@@ -39,7 +39,7 @@ module _ {K : Type 0} (kind : Kind K) (unopened : ℕ → Option (List ℕ)) (h 
   row_good = bad_same blows base ∙ good kind unopened h g.allowed g.due
 
   pub at : (p : ℕ) → slice_get s.row p ≡ cond (ltb p h.n) (Some (with_its_blow (blows p) (place_by kind h p))) None
-  at = blown_place kind h g.allowed.size kind unopened blows
+  at = blown_place kind h g.allowed.size unopened blows
 
   pub rings_at : (p : ℕ) → has_rung (place_by kind h p) ≡ (closes h.falls p h.closed && rule.rings h p h.closed)
   rings_at = rung_is kind unopened h g.allowed g.due

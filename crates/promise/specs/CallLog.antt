@@ -1,31 +1,13 @@
 -- What calls and their answers tell, and nothing else: the history, and how far each blow has come. To be believed for the promise.
-use Rattle.std.specs.Prelude.{◌≡◌, ℕ, zero, suc, Bool, true, if◌then◌else◌, not, ◌&&◌, List, [], ◌∷◌, map, get_or, Some, None, Option, Result, is_ok, ◌==◌, nat_le, nat_lt}
-use Rattle.std.specs.List.{range_with_len}
-use Rattle.std.specs.Result.{result_map_both}
+use Rattle.std.specs.Prelude.{ℕ, suc, if◌then◌else◌, List, [], ◌∷◌, get_or, Result, is_ok, ◌==◌}
 use Rattle.base.specs.declared.refusal.Refusal.{Refusal}
-use Rattle.sets.specs.declared.set.BoxSet.{BoxSet}
-use Rattle.sets.specs.Masks.{set_of}
-use Rattle.frames.specs.Frames.{frame_bytes}
-use Rattle.boxes.specs.BoxRounds.{Outcome}
-use Rattle.wire.specs.WireState.{WireState}
-use Rattle.rule.specs.declared.falls.Fall.{Fall}
-use Rattle.rule.specs.Falls.{no_falls, with_fall, fell_before, closes}
+use Rattle.rule.specs.Falls.{no_falls, with_fall}
 use Rattle.rule.specs.Histories.{History}
-use Rattle.rule.specs.HeldValues.{frame_after, outcome_of}
 use Rattle.machine.specs.declared.place.Blow.{Blow}
 use Rattle.machine.specs.declared.place.Blow.TheVariants as blow
-use Rattle.machine.specs.declared.place.Standing.{Standing}
-use Rattle.machine.specs.Places.{PlaceState, down, state_of_outcome}
-use Rattle.machine.specs.State.{State}
-use Rattle.machine.specs.FallCall.{on_fall}
-use Rattle.machine.specs.RoundCall.{on_round}
-use Rattle.machine.specs.OrderCalls.{on_draw, state_after_draw, on_report}
-use Rattle.machine.specs.AskCall.{on_ask}
-use Rattle.base.specs.Results.{or_kept}
 use Rattle.promise.specs.declared.request.Request.{Request}
 use Rattle.promise.specs.declared.request.Request.TheVariants as request
 use Rattle.promise.specs.declared.request.Reply.{Reply}
-use Rattle.promise.specs.declared.request.Reply.TheVariants as reply
 
 -- what a call answers, or why it is refused
 abbrev pub Answer : Type 0 → Type 0

@@ -1,21 +1,9 @@
 -- Calls one after another: what each answers, and the state after it. To be believed for the promise.
-use Rattle.std.specs.Prelude.{◌≡◌, ℕ, zero, suc, Bool, true, if◌then◌else◌, not, ◌&&◌, List, [], ◌∷◌, map, get_or, Some, None, Option, Result, is_ok, ◌==◌, nat_le, nat_lt}
-use Rattle.std.specs.List.{range_with_len}
+use Rattle.std.specs.Prelude.{◌≡◌, Bool, true, ◌&&◌, List, [], ◌∷◌, Result, is_ok}
 use Rattle.std.specs.Result.{result_map_both}
 use Rattle.base.specs.declared.refusal.Refusal.{Refusal}
-use Rattle.sets.specs.declared.set.BoxSet.{BoxSet}
-use Rattle.sets.specs.Masks.{set_of}
-use Rattle.frames.specs.Frames.{frame_bytes}
-use Rattle.boxes.specs.BoxRounds.{Outcome}
-use Rattle.wire.specs.WireState.{WireState}
-use Rattle.rule.specs.declared.falls.Fall.{Fall}
-use Rattle.rule.specs.Falls.{no_falls, with_fall, fell_before, closes}
-use Rattle.rule.specs.Histories.{History}
-use Rattle.rule.specs.HeldValues.{frame_after, outcome_of}
-use Rattle.machine.specs.declared.place.Blow.{Blow}
 use Rattle.machine.specs.declared.place.Blow.TheVariants as blow
 use Rattle.machine.specs.declared.place.Standing.{Standing}
-use Rattle.machine.specs.Places.{PlaceState, down, state_of_outcome}
 use Rattle.machine.specs.State.{State}
 use Rattle.machine.specs.FallCall.{on_fall}
 use Rattle.machine.specs.RoundCall.{on_round}
@@ -24,7 +12,6 @@ use Rattle.machine.specs.AskCall.{on_ask}
 use Rattle.base.specs.Results.{or_kept}
 use Rattle.promise.specs.declared.request.Request.{Request}
 use Rattle.promise.specs.declared.request.Request.TheVariants as request
-use Rattle.promise.specs.declared.request.Reply.{Reply}
 use Rattle.promise.specs.declared.request.Reply.TheVariants as reply
 use Rattle.proposals.specs.Kinds.{Kind}
 use Rattle.promise.specs.CallLog.{Answer}
@@ -56,7 +43,7 @@ module _ {K : Type 0} (kind : Kind K) where
 
   -- both, of a call that was made: the answer by its reply or refusal, and the state afterwards
   abbrev pub StepsTo : Request → State K → Answer K → State K → Type 0
-  StepsTo c s answered then = (answered ≡ answer_to c s) × (then ≡ state_after_call c s)
+  StepsTo c s answered end = (answered ≡ answer_to c s) × (end ≡ state_after_call c s)
 
   -- the same of a list of calls, accepted or refused
   unfoldable pub state_after : List Request → State K → State K

@@ -1,4 +1,6 @@
 -- A box hears the others one after another and closes as the rule says. Assumes nothing.
+use Rattle.base.specs.Results.{refused_with}
+use Rattle.base.specs.declared.refused.Refused.{Refused}
 use Rattle.std.proofs.Common.{◌≡◌, ℕ, ◌+◌, ◌<◌, Bool, true, false, cond, ◌||◌, eqb, ltb, ◌⊎◌, List, is_some, Some, None, Ok, Option, option_map, Result, refl, sym, ap, ◌∙◌, subst, inl, inr, arith}
 use Rattle.std.specs.List.{slice_get}
 use Rattle.std.specs.Option.{option_or}
@@ -178,7 +180,7 @@ module _ {K : Type 0} (kind : Kind K) (order : IsOrder kind.leads)
           ap (λ t. cond t (frames_heard_by s p i) None) t ∙ ap (λ t. cond t (sent_frame s i) None) (sym u)
 
   -- so does a listening box that is known to be it
-  pub closed_so : (l : Listening K) (q : ℕ) (a : Result (Closed K) (Listening K × BoxFault)) → l.resting ≡ b → q ≡ w.n → Shows kind b l.notes (below q)
-      → result_map_both outcome (λ e. e) a ≡ map_fault (λ e. (l, e)) (on_close l.resting.held l.notes) → result_map_both outcome (λ e. e) a ≡ Ok (outcome_by_frames kind b.held (frames_heard_by s p))
+  pub closed_so : (l : Listening K) (q : ℕ) (a : Result (Closed K) (Refused (Listening K) BoxFault)) → l.resting ≡ b → q ≡ w.n → Shows kind b l.notes (below q)
+      → result_map_both outcome (λ e. e) a ≡ map_fault (refused_with l) (on_close l.resting.held l.notes) → result_map_both outcome (λ e. e) a ≡ Ok (outcome_by_frames kind b.held (frames_heard_by s p))
   closed_so l q a same all shows closes =
-      closes ∙ ap (map_fault (λ e. (l, e))) (ap (λ x. on_close x.held l.notes) same ∙ closes_so l.notes (subst (λ i. Shows kind b l.notes (below i)) all shows))
+      closes ∙ ap (map_fault (refused_with l)) (ap (λ x. on_close x.held l.notes) same ∙ closes_so l.notes (subst (λ i. Shows kind b l.notes (below i)) all shows))

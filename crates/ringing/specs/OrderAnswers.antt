@@ -3,6 +3,8 @@ use Rattle.std.specs.Prelude.{Result}
 use Rattle.std.specs.Bool.{⊤}
 use Rattle.std.specs.Result.{result_map_both}
 use Rattle.base.specs.declared.refusal.Refusal.{Refusal}
+use Rattle.base.specs.declared.refused.Refused.{Refused}
+use Rattle.base.specs.Results.{refused_with}
 use Rattle.sets.specs.declared.box_number.BoxNumber.{BoxNumber}
 use Rattle.sets.specs.declared.round_number.RoundNumber.{RoundNumber}
 use Rattle.machine.specs.State.{State}
@@ -15,12 +17,12 @@ abbrev pub handed_order : {X : Type 0} → BoxNumber → Result (RoundNumber × 
 handed_order p r = result_map_both (λ x. record { number = p; round = x.0 }) (λ e. e) r
 
 -- done, or the refusal with the order
-abbrev pub report_answer : {K : Type 0} → StrikeOrder → Result (State K) Refusal → Result ⊤ (StrikeOrder × Refusal)
-report_answer order r = result_map_both (λ _. tt) (λ e. (order, e)) r
+abbrev pub report_answer : {K : Type 0} → StrikeOrder → Result (State K) Refusal → Result ⊤ (Refused StrikeOrder Refusal)
+report_answer order r = result_map_both (λ _. tt) (refused_with order) r
 
 -- the answers as replies: an order counts by its round, and one that is returned not at all
 abbrev pub draw_reply : {K : Type 0} → Result StrikeOrder Refusal → Answer K
 draw_reply r = result_map_both (λ o. reply.Drawn o.round) (λ e. e) r
 
-abbrev pub report_reply : {K : Type 0} → Result ⊤ (StrikeOrder × Refusal) → Answer K
-report_reply r = result_map_both (λ _. reply.Done) (λ e. e.1) r
+abbrev pub report_reply : {K : Type 0} → Result ⊤ (Refused StrikeOrder Refusal) → Answer K
+report_reply r = result_map_both (λ _. reply.Done) (λ e. e.fault) r

@@ -81,7 +81,7 @@ fn close_box<W: Wire, K: Proposal>(
     }
     match listening.close() {
         Ok(closed) => Ok(closed),
-        Err((_, fault)) => Err(fault.refusal()),
+        Err(refused) => Err(refused.fault.refusal()),
     }
 }
 

@@ -4,7 +4,7 @@ ghost use Rattle.sets.specs.Companies.{is_company};
 
 use super::make::set_up;
 use proposals::Proposal;
-use base::Refusal;
+use base::{Refusal, Refused};
 use machine::{Place, Standing};
 use promise::promise_laws;
 use sets::{BoxNumber, BoxSet};
@@ -24,7 +24,7 @@ pub struct Ringing<W: Wire> {
 impl<W: Wire> Ringing<W> {
     ghost use Rattle.std.specs.Prelude.{List, length, IfOk, OnErr};
     ghost use Rattle.std.specs.Result.{result_map_both};
-    ghost use Rattle.base.specs.Results.{map_fault};
+    ghost use Rattle.base.specs.Results.{map_fault, refused_with};
     ghost use Rattle.machine.specs.MakeCall.{on_make};
     ghost use Rattle.machine.specs.FallCall.{on_fall};
     ghost use Rattle.machine.specs.AskCall.{on_ask};
@@ -48,15 +48,15 @@ impl<W: Wire> Ringing<W> {
         wire: W,
         row: &mut [Place<K>],
         proposals: &[K],
-    ) -> Result<Ringing<W>, (W, Refusal)>
-        ensures ringing { result_map_both (λ r. state_of r row.new) (λ e. e) result ≡ map_fault (λ e. (wire, e)) (on_make n t (W.meaning wire) (length row.old) proposals.now) }
+    ) -> Result<Ringing<W>, Refused<W, Refusal>>
+        ensures ringing { result_map_both (λ r. state_of r row.new) (λ e. e) result ≡ map_fault (refused_with wire) (on_make n t (W.meaning wire) (length row.old) proposals.now) }
         ensures refused { OnErr result (row.new ≡ row.old) }
         ensures promised { let m = W.meaning wire in IfOk (on_make n t m (length row.old) proposals.now) (λ s. (past_end : K) (calls : List Request) → IsPromised K.kind m.posted calls s (undrawn_log (first_history n t proposals.now past_end))) }
     {
         let _ = promise_laws::<K>();
         match set_up(n, t, &wire, row, proposals) {
             Ok(()) => Ok(Ringing { wire, t, closed: 0 }),
-            Err(refusal) => Err((wire, refusal)),
+            Err(fault) => Err(Refused { value: wire, fault }),
         }
     }
 

@@ -10,7 +10,7 @@ ghost use Rattle.machine.specs.OrderCalls.{with_blow};
 use super::make::put;
 use super::ringing::Ringing;
 use proposals::Proposal;
-use base::Refusal;
+use base::{Refusal, Refused};
 use machine::{Blow, Place, Rung};
 use sets::{BoxNumber, RoundNumber};
 use wire::Wire;
@@ -80,7 +80,7 @@ impl<W: Wire> Ringing<W> {
         &self,
         row: &mut [Place<K>],
         order: StrikeOrder,
-    ) -> Result<(), (StrikeOrder, Refusal)>
+    ) -> Result<(), Refused<StrikeOrder, Refusal>>
         ensures answer { let s = state_of self.now row.old in result ≡ report_answer order (on_report blow.Struck order.number order.round s) }
         ensures steps { let s = state_of self.now row.old in StepsTo K.kind (request.Struck order.number order.round) s (report_reply result) (state_of self.now row.new) }
         ensures refused { OnErr result (row.new ≡ row.old) }
@@ -93,7 +93,7 @@ impl<W: Wire> Ringing<W> {
         &self,
         row: &mut [Place<K>],
         order: StrikeOrder,
-    ) -> Result<(), (StrikeOrder, Refusal)>
+    ) -> Result<(), Refused<StrikeOrder, Refusal>>
         ensures answer { let s = state_of self.now row.old in result ≡ report_answer order (on_report blow.Missed order.number order.round s) }
         ensures steps { let s = state_of self.now row.old in StepsTo K.kind (request.Missed order.number order.round) s (report_reply result) (state_of self.now row.new) }
         ensures refused { OnErr result (row.new ≡ row.old) }
@@ -137,7 +137,7 @@ impl<W: Wire> Ringing<W> {
         row: &mut [Place<K>],
         order: StrikeOrder,
         blow: Blow,
-    ) -> Result<(), (StrikeOrder, Refusal)>
+    ) -> Result<(), Refused<StrikeOrder, Refusal>>
         ensures answer { let s = state_of self.now row.old in result ≡ report_answer order (on_report blow order.number order.round s) }
         ensures state { let s = state_of self.now row.old in state_of self.now row.new ≡ or_kept s (on_report blow order.number order.round s) }
         ensures refused { OnErr result (row.new ≡ row.old) }
@@ -148,7 +148,10 @@ impl<W: Wire> Ringing<W> {
                 set_blow(row, number, blow);
                 Ok(())
             }
-            Err(refusal) => Err((order, refusal)),
+            Err(fault) => Err(Refused {
+                value: order,
+                fault,
+            }),
         }
     }
 }

@@ -203,7 +203,7 @@ module _ {K : Type 0} (kind : Kind K) (agree : (h : History K) → Agreement h k
               over_where_refused kind (at (ringing_round_of s)) f.good (grind (arith, nat_tests));
           good = f.good;
         },
-        f.is ∙ undrawn_same kind h f.allowed.size kind m.posted,
+        f.is ∙ undrawn_same kind h f.allowed.size m.posted,
       )
 
 pub script_plays : {K : Type 0} (kind : Kind K) → ((h : History K) → Agreement h kind) → ((h : History K) → IsAllowed h → SomeRemains h)

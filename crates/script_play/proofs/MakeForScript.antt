@@ -1,4 +1,5 @@
 -- A ringing that is made for a script. Assumes nothing.
+use Rattle.base.specs.Results.{refused_with}
 use Rattle.std.proofs.Common.{◌≡◌, ℕ, ◌≤◌, Bool, List, length, Ok, Err, Result, IfOk, sym, refl, ap, ◌∙◌, arith}
 use Rattle.std.specs.Result.{result_map_both}
 use Rattle.std.proofs.lemmas.Bool.Decides.{nat_tests}
@@ -22,10 +23,10 @@ proper s = record { size = s.size; few = s.few; fitting = s.fitting }
 
 -- what was made, for the script's n and t
 pub made_for : {K W : Type 0} (w : W) (n t a b : ℕ) (m : WireState) (places : ℕ) (proposals : List K) (x : State K) → a ≡ n → b ≡ t
-    → Ok x ≡ map_fault {E = W × Refusal} (λ e. (w, e)) (on_make a b m places proposals) → on_make n t m places proposals ≡ Ok x
+    → Ok x ≡ map_fault (refused_with w) (on_make a b m places proposals) → on_make n t m places proposals ≡ Ok x
 made_for {K = K} {W = W} w n t a b m places proposals x an bt is = ap (λ k. on_make k t m places proposals) (sym an) ∙ ap (λ k. on_make a k m places proposals) (sym bt) ∙ by (on_make a b m places proposals) is
   where
-    by : (r : Result (State K) Refusal) → Ok x ≡ map_fault {E = W × Refusal} (λ e. (w, e)) r → r ≡ Ok x
+    by : (r : Result (State K) Refusal) → Ok x ≡ map_fault (refused_with w) r → r ≡ Ok x
     by (Ok y) e = cc
     by (Err d) e = absurd (grind arith)
 
@@ -43,7 +44,7 @@ module _ {K : Type 0} {kind : Kind K} (plays : ScriptPlays kind) (s : Script) {m
     pub goes : (past_end : K) → LeadsTo kind m.posted (values_of s) (history_of (values_of s) proposals past_end) first
     goes past_end = (plays (values_of s) (proper s) proposals past_end).2 places m first formed made
 
-  module _ {W : Type 0} (w : W) {a b : ℕ} (an : a ≡ s.n) (bt : b ≡ s.t) {first : State K} (is : Ok first ≡ map_fault {E = W × Refusal} (λ e. (w, e)) (on_make a b m places proposals)) where
+  module _ {W : Type 0} (w : W) {a b : ℕ} (an : a ≡ s.n) (bt : b ≡ s.t) {first : State K} (is : Ok first ≡ map_fault (refused_with w) (on_make a b m places proposals)) where
     pub made_so : on_make s.n s.t m places proposals ≡ Ok first
     made_so = made_for w s.n s.t a b m places proposals first an bt is
 
@@ -51,7 +52,7 @@ module _ {K : Type 0} {kind : Kind K} (plays : ScriptPlays kind) (s : Script) {m
     made_goes = (goes made_so (some made_so)).0
 
     pub made_plays : {end : State K} (past_end : K) → end ≡ state_after kind (calls_to s.entries.items (ringing_round_of (values_of s))) first
-        → Ok end ≡ map_fault {E = W × Refusal} (λ e. (w, e)) (on_play kind (values_of s) m places proposals past_end)
+        → Ok end ≡ map_fault (refused_with w) (on_play kind (values_of s) m places proposals past_end)
     made_plays past_end lead =
         ap Ok (lead ∙ (goes made_so past_end).1)
-        ∙ ap (λ r. map_fault {E = W × Refusal} (λ e. (w, e)) (result_map_both (λ _. state_by kind (history_of (values_of s) proposals past_end) m.posted) (λ x. x) r)) (sym made_so)
+        ∙ ap (λ r. map_fault (refused_with w) (result_map_both (λ _. state_by kind (history_of (values_of s) proposals past_end) m.posted) (λ x. x) r)) (sym made_so)

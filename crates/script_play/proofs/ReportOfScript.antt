@@ -1,4 +1,6 @@
 -- The report of a script that is played on a new wire. Assumes nothing.
+use Rattle.base.specs.Results.{refused_with}
+use Rattle.base.specs.declared.refused.Refused.{Refused}
 use Rattle.std.proofs.Common.{◌≡◌, ℕ, suc, ◌<◌, ◌≤◌, Bool, true, false, cond, leb, ltb, List, [], ◌∷◌, length, take, drop, get_or, Fits, w8, Some, None, Option, Ok, Err, Result, sym, refl, ap, ◌∙◌, subst, arith}
 use Rattle.std.specs.List.{slice_get, AllByRecursion}
 use Rattle.std.specs.Result.{result_map_both, IsOk}
@@ -91,13 +93,13 @@ module _ {K : Type 0} (kind : Kind K) (accepted : MakeIsAccepted K) (s : ScriptV
       played_here : on_play kind s m places proposals past_end ≡ Ok end
       played_here = ap (λ x. on_play kind s x places proposals past_end) new ∙ ap (λ x. on_play kind s (new_wire s.n) x proposals past_end) whole ∙ plays_to
 
-      pub ends_so : (x : State K) → Ok x ≡ map_fault {E = W × Refusal} (λ e. (w, e)) (on_play kind s m places proposals past_end) → x ≡ end
-      ends_so x is = let e = ap (map_fault {E = W × Refusal} (λ e. (w, e))) played_here in cc
+      pub ends_so : (x : State K) → Ok x ≡ map_fault (refused_with w) (on_play kind s m places proposals past_end) → x ≡ end
+      ends_so x is = let e = ap (map_fault (refused_with w)) played_here in cc
 
-      pub plays_on : {R : Type 0} (shown : R → State K) (r : Result R (W × Refusal))
-          → result_map_both shown (λ e. e) r ≡ map_fault {E = W × Refusal} (λ e. (w, e)) (on_play kind s m places proposals past_end) → IsOk r
+      pub plays_on : {R : Type 0} (shown : R → State K) (r : Result R (Refused W Refusal))
+          → result_map_both shown (λ e. e) r ≡ map_fault (refused_with w) (on_play kind s m places proposals past_end) → IsOk r
       plays_on shown (Ok x) is = refl
-      plays_on shown (Err e) is = absurd (let k = ap (map_fault {E = W × Refusal} (λ e. (w, e))) played_here in grind arith)
+      plays_on shown (Err e) is = absurd (let k = ap (map_fault (refused_with w)) played_here in grind arith)
 
     module _ (plays : ScriptPlays kind) where
       rests : (bad_row end ≡ false) × (is_over end ≡ true)

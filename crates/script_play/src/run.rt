@@ -1,7 +1,7 @@
 // Playing a script over a wire: before each round its falls are told, until the boxes ring.
 ghost use Rattle.std.specs.Prelude.{◌≡◌, ◌+◌, ◌≤◌, ℕ, true, List, Option, length, IfOk, OnErr};
 ghost use Rattle.std.specs.Result.{result_map_both};
-ghost use Rattle.base.specs.Results.{map_fault};
+ghost use Rattle.base.specs.Results.{map_fault, refused_with};
 ghost use Rattle.rule.specs.Histories.{History};
 ghost use Rattle.machine.specs.MakeCall.{on_make};
 ghost use Rattle.machine.specs.RowCheck.{is_over};
@@ -15,7 +15,7 @@ ghost use Rattle.script_play.specs.PlayLaws.{EndsRinging, AllRing, CallsAreAccep
 use super::laws::play_laws;
 use frames::LONGEST_FRAME;
 use proposals::Proposal;
-use base::Refusal;
+use base::{Refusal, Refused};
 use ringing::Ringing;
 use machine::{Place, is_over};
 use scripts::{Entry, Script};
@@ -76,9 +76,9 @@ pub fn play<W: Wire, K: Proposal>(
     proposals: &[K],
     wire: W,
     row: &mut [Place<K>],
-) -> Result<Ringing<W>, (W, Refusal)>
-    ensures answer { result_map_both (λ _. tt) (λ e. e) result ≡ map_fault (λ e. (wire, e)) (answer (on_make script.now.n script.now.t (W.meaning wire) (length row.old) proposals.now)) }
-    ensures played { (past_end : K) → result_map_both (λ r. state_of r row.new) (λ e. e) result ≡ map_fault (λ e. (wire, e)) (on_play K.kind (values_of script.now) (W.meaning wire) (length row.old) proposals.now past_end) }
+) -> Result<Ringing<W>, Refused<W, Refusal>>
+    ensures answer { result_map_both (λ _. tt) (λ e. e) result ≡ map_fault (refused_with wire) (answer (on_make script.now.n script.now.t (W.meaning wire) (length row.old) proposals.now)) }
+    ensures played { (past_end : K) → result_map_both (λ r. state_of r row.new) (λ e. e) result ≡ map_fault (refused_with wire) (on_play K.kind (values_of script.now) (W.meaning wire) (length row.old) proposals.now past_end) }
     ensures refused { OnErr result (row.new ≡ row.old) }
     ensures rings { (past_end : K) → let h = history_of (values_of script.now) proposals.now past_end in EndsRinging K.kind h × AllRing K.kind h }
     ensures goes { (past_end : K) → IfOk (on_make script.now.n script.now.t (W.meaning wire) (length row.old) proposals.now) (λ first. LeadsTo K.kind (W.meaning wire).posted (values_of script.now) (history_of (values_of script.now) proposals.now past_end) first) }

@@ -1,4 +1,5 @@
 -- The orders in hand after a list of calls are taken back, one after another. Assumes nothing.
+use Rattle.base.specs.Results.{refused_with}
 use Rattle.std.specs.Bool.{⊤}
 use Rattle.std.proofs.Common.{◌≡◌, ℕ, zero, suc, ◌+◌, ◌≤◌, Bool, true, false, cond, ◌&&◌, eqb, List, [], ◌∷◌, get_or, Some, None, Ok, Err, OnOk, OnErr, Option, option_map, Result, sym, refl, ap, ◌∙◌, subst, arith}
 use Rattle.std.specs.List.{slice_get}
@@ -105,7 +106,7 @@ back_on s k orders then is ready p l =
 -- ---- after the list
 
 -- a ringing that was made
-pub made_of : {K W : Type 0} (w : W) (r : Result (State K) Refusal) (x : State K) → Ok x ≡ map_fault {E = W × Refusal} (λ e. (w, e)) r → r ≡ Ok x
+pub made_of : {K W : Type 0} (w : W) (r : Result (State K) Refusal) (x : State K) → Ok x ≡ map_fault (refused_with w) r → r ≡ Ok x
 made_of w (Ok y) x e = cc
 made_of w (Err d) x e = absurd (grind arith)
 

@@ -1,4 +1,3 @@
-use Rattle.std.proofs.Common.{arith}
 use Rattle.promise.proofs.CallKeepsLog.{calls_kept}
 use Rattle.promise.proofs.ToldByLog.{follows}
 use Rattle.promise.proofs.OneRingProof.{rings_once}

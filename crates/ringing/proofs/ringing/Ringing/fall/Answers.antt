@@ -5,7 +5,7 @@ use Rattle.wire.specs.WireState.{WireState, on_fall as wire_on_fall}
 use Rattle.machine.specs.FallCall.{on_fall}
 use Rattle.base.specs.Results.{answer, or_kept}
 use Rattle.promise.specs.CallSteps.{done_answer}
-use Rattle.promise.proofs.CallAnswers.{done_answer}
+use Rattle.promise.proofs.CallAnswers.{done_of_answer}
 use Rattle.ringing.specs.RingingStates.{state}
 use Rattle.ringing.proofs.FallByExit.{told_ok, falls_size, not_refused}
 use Rattle.ringing.proofs.ringing.Ringing.fall.Goals as goal
@@ -28,7 +28,7 @@ returns g c =
     record {
       answer = told;
       steps = (
-        ap (done_answer {K = g.row.K.Denot}) told ∙ done_answer g.row.K.Denot (on_fall c.args.q c.args.lost s),
+        ap (done_answer {K = g.row.K.Denot}) told ∙ done_of_answer g.row.K.Denot (on_fall c.args.q c.args.lost s),
         ap (λ x. record s { wire = x }) (c.fall.ensures.meaning ∙ ap (wire.or_kept m) t.1) ∙ sym (ap (or_kept s) t.2),
       );
       refused = not_refused _ c.fall.result (told ∙ ap answer t.2);

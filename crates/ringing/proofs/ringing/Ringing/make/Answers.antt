@@ -1,3 +1,4 @@
+use Rattle.base.specs.Results.{refused_with}
 use Rattle.std.proofs.Common.{length, Ok, sym, ap, ◌∙◌, arith, refl}
 use Rattle.base.specs.Results.{map_fault}
 use Rattle.machine.specs.MakeCall.{on_make}
@@ -9,12 +10,12 @@ pub returns-in-Ok-clause-ringing : goal.returns-in-Ok-clause-ringing
 returns-in-Ok-clause-ringing g c =
     let m = g.W.Wire.meaning c.args.wire in
     let k = makes c.args.n c.args.t m (length c.args.row.now) c.args.proposals.now c.in-Ok.ensures.answer in
-    ap Ok (state_same refl refl (omega arith) c.in-Ok.ensures.row) ∙ sym (ap (map_fault (λ e. (c.args.wire, e))) k.made)
+    ap Ok (state_same refl refl (omega arith) c.in-Ok.ensures.row) ∙ sym (ap (map_fault (refused_with c.args.wire)) k.made)
 
 pub returns-in-Err-clause-ringing : goal.returns-in-Err-clause-ringing
 returns-in-Err-clause-ringing g c =
     let m = g.W.Wire.meaning c.args.wire in
-    sym (ap (map_fault (λ e. (c.args.wire, e))) (makes_not c.args.n c.args.t m (length c.args.row.now) c.args.proposals.now c.in-Err.refusal c.in-Err.ensures.answer))
+    sym (ap (map_fault (refused_with c.args.wire)) (makes_not c.args.n c.args.t m (length c.args.row.now) c.args.proposals.now c.in-Err.refusal c.in-Err.ensures.answer))
 
 pub returns-in-Ok-clause-promised : goal.returns-in-Ok-clause-promised
 returns-in-Ok-clause-promised g c =
