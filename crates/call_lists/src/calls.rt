@@ -77,7 +77,7 @@ fn settle<K: Proposal>(
     reported: Result<(), Refused<StrikeOrder, Refusal>>,
 ) -> Result<Reply<K>, Refusal>
     requires { HasFreeSlot reported orders.old }
-    ensures reply { result ≡ report_reply reported }
+    ensures answer { result ≡ report_reply reported }
     ensures orders { orders.new ≡ orders_put_back reported orders.old }
 {
     match reported {

@@ -31,7 +31,7 @@ fn has_order(slot: &Option<StrikeOrder>, p: usize, round: RoundNumber) -> bool
 
 // Takes the order of box p and this round, if the slot has it.
 fn take_from(slot: &mut Option<StrikeOrder>, p: usize, round: RoundNumber) -> Option<StrikeOrder>
-    ensures result { result ≡ (if is_order p round slot.old then slot.old else None) }
+    ensures answer { result ≡ (if is_order p round slot.old then slot.old else None) }
     ensures slot { slot.new ≡ (if is_order p round slot.old then None else slot.old) }
 {
     if has_order(slot, p, round) {
@@ -47,7 +47,7 @@ pub(crate) fn take_order(
     p: BoxNumber,
     round: RoundNumber,
 ) -> Option<StrikeOrder>
-    ensures result { result ≡ order_in_hand p round orders.old }
+    ensures answer { result ≡ order_in_hand p round orders.old }
     ensures orders { orders.new ≡ orders_without p round orders.old }
 {
     let index = p.0 as usize;

@@ -26,7 +26,7 @@ pub fn write_report<W: Wire, K: Proposal>(
     row: &[Place<K>],
     out: &mut [u8],
 ) -> Result<usize, Refusal>
-    ensures report_answer { let s = state_of ringing.now row.now in result ≡ report_answer (report_or_refusal K.kind (length out.old) s) }
+    ensures answer { let s = state_of ringing.now row.now in result ≡ report_answer (report_or_refusal K.kind (length out.old) s) }
     ensures bytes { let s = state_of ringing.now row.now in out.new ≡ report_bytes out.old (report_or_refusal K.kind (length out.old) s) }
 {
     ringing.ask(row, BoxNumber(0))?;
@@ -38,7 +38,7 @@ pub fn write_report<W: Wire, K: Proposal>(
 
 // Writes the line of a refusal to the front of `out` and tells its length; where there is too little room, nothing is touched.
 pub fn write_refusal(refusal: Refusal, out: &mut [u8]) -> Result<usize, Refusal>
-    ensures report_answer { result ≡ len_if_room (refusal_line refusal) out.old }
+    ensures answer { result ≡ len_if_room (refusal_line refusal) out.old }
     ensures bytes { out.new ≡ with_front (refusal_line refusal) out.old }
 {
     put(&refusal_text(refusal), out)

@@ -9,12 +9,11 @@ use Rattle.sets.specs.declared.box_number.BoxNumber.{BoxNumber}
 use Rattle.sets.specs.declared.set.BoxSet.{BoxSet}
 use Rattle.base.specs.Refusals.{unless}
 use Rattle.base.specs.Results.{and_then}
-use Rattle.wire.specs.WireState as wire
 use Rattle.wire.specs.WireState.{WireState, on_fall as wire_on_fall}
 use Rattle.machine.specs.State.{State, gone_count}
 use Rattle.machine.specs.RowCheck.{bad_row, row_verdict, is_over, going_on_verdict}
 use Rattle.machine.specs.FallCall.{on_fall}
-use Rattle.base.specs.Results.{answer}
+use Rattle.base.specs.Results.{answer, or_kept}
 
 pub is_checked : {K : Type 0} (s : State K) → Ok tt ≡ row_verdict s → bad_row s ≡ false
 is_checked s e = grind arith
@@ -23,11 +22,11 @@ pub not_checked : {K : Type 0} (s : State K) (e : Refusal) → Err e ≡ row_ver
 not_checked s e is = (grind arith, grind arith)
 
 -- the wire's answer alone
-pub falls_not : (r : Result WireState Refusal) (e : Refusal) → Err e ≡ wire.answer r → r ≡ Err e
+pub falls_not : (r : Result WireState Refusal) (e : Refusal) → Err e ≡ answer r → r ≡ Err e
 falls_not (Ok m) e is = absurd (grind arith)
 falls_not (Err x) e is = cc
 
-pub falls_so : (r : Result WireState Refusal) (m then : WireState) → Ok tt ≡ wire.answer r → then ≡ wire.or_kept m r → r ≡ Ok then
+pub falls_so : (r : Result WireState Refusal) (m then : WireState) → Ok tt ≡ answer r → then ≡ or_kept m r → r ≡ Ok then
 falls_so (Ok x) m then e is = cc
 falls_so (Err x) m then e is = absurd (grind arith)
 
@@ -63,7 +62,7 @@ module _ {K : Type 0} (q : BoxNumber) (lost : BoxSet) (s : State K) where
       tell_spent m is l = grind (arith, nat_tests)
 
       -- by the wire's answer alone
-      module _ (r : Result ⊤ Refusal) (told : r ≡ wire.answer (wire_on_fall q.0 lost s.wire)) where
+      module _ (r : Result ⊤ Refusal) (told : r ≡ answer (wire_on_fall q.0 lost s.wire)) where
         pub answer_refused : (e : Refusal) → r ≡ Err e → answer (on_fall q lost s) ≡ Err e
         unfolding on_fall
         answer_refused e is = grind arith
@@ -81,7 +80,7 @@ module _ {K : Type 0} (q : BoxNumber) (lost : BoxSet) (s : State K) where
       tell_ok m is l = grind (arith, nat_tests)
 
 -- a company stays as large
-pub falls_size : (q : ℕ) (lost : BoxSet) (m : WireState) → (wire.or_kept m (wire_on_fall q lost m)).n ≡ m.n
+pub falls_size : (q : ℕ) (lost : BoxSet) (m : WireState) → (or_kept m (wire_on_fall q lost m)).n ≡ m.n
 unfolding wire_on_fall
 falls_size q lost m = grind arith
 

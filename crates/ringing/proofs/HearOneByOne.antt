@@ -1,7 +1,7 @@
 -- A box hears the others one after another and closes as the rule says. Assumes nothing.
 use Rattle.base.specs.Results.{refused_with}
 use Rattle.base.specs.declared.refused.Refused.{Refused}
-use Rattle.std.proofs.Common.{◌≡◌, ℕ, ◌+◌, ◌<◌, Bool, true, false, cond, ◌||◌, eqb, ltb, ◌⊎◌, List, is_some, Some, None, Ok, Option, option_map, Result, refl, sym, ap, ◌∙◌, subst, inl, inr, arith}
+use Rattle.std.proofs.Common.{◌≡◌, ℕ, ◌+◌, ◌<◌, Bool, true, false, cond, ◌||◌, eqb, ltb, ◌⊎◌, is_some, Some, None, Ok, Option, option_map, Result, refl, sym, ap, ◌∙◌, subst, inl, inr, arith}
 use Rattle.std.specs.List.{slice_get}
 use Rattle.std.specs.Option.{option_or}
 use Rattle.std.specs.Result.{result_map_both}

@@ -40,8 +40,8 @@ module _ (m : WireState) (w : IsWellFormed m) where
   pub some_gone : (s e : BoxSet) → s ≡ set_of (λ q. ltb q m.n && is_gone m q) → e ≡ set_of (λ _. false) → any (is_gone m) m.n ≡ not (eqb s.mask e.mask)
   some_gone s e is none = by (any (is_gone m) m.n) refl
     where
-      kind : (k : ℕ) × (k < m.n) × (is_gone m k ≡ true) → eqb s.mask e.mask ≡ false
-      kind (k, l, g) =
+      one_gone : (k : ℕ) × (k < m.n) × (is_gone m k ≡ true) → eqb s.mask e.mask ≡ false
+      one_gone (k, l, g) =
           let f = few in
           let a = member_is (λ q. ltb q m.n && is_gone m q) s is k (omega arith) in
           let b = member_is (λ _. false) e none k (omega arith) in
@@ -49,7 +49,7 @@ module _ (m : WireState) (w : IsWellFormed m) where
           grind (arith, nat_tests)
 
       by : (t : Bool) → any (is_gone m) m.n ≡ t → any (is_gone m) m.n ≡ not (eqb s.mask e.mask)
-      by true is_so = is_so ∙ sym (ap not (kind.named (any_has (is_gone m) m.n is_so)))
+      by true is_so = is_so ∙ sym (ap not (one_gone (any_has (is_gone m) m.n is_so)))
       by false is_so =
           let same = is ∙ set_ext (λ q. ltb q m.n && is_gone m q) (λ _. false) (λ i _. let a = any_none (is_gone m) m.n is_so i in grind (arith, nat_tests)) ∙ sym none in
           is_so ∙ sym (ap not (eq-eqb s.mask e.mask (ap (λ x. x.mask) same)))

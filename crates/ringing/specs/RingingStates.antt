@@ -1,5 +1,5 @@
 -- A ringing with the row that is handed to it, as a state. Assumes nothing.
-use Rattle.std.specs.Prelude.{◌≡◌, ℕ, Bool, if◌then◌else◌, List, map, Some, None, Option, option_map, Ok, Result}
+use Rattle.std.specs.Prelude.{◌≡◌, ℕ, if◌then◌else◌, List, map, Some, None, Option, option_map, Ok, Result}
 use Rattle.std.specs.Result.{result_map_both}
 use Rattle.base.specs.declared.refusal.Refusal.{Refusal}
 use Rattle.sets.specs.Masks.{member}
@@ -19,12 +19,12 @@ use Rattle.machine.specs.MachineLaws.{RefusesNothing}
 use Rattle.proposals.specs.Kinds.{Kind}
 
 -- by the meaning of its wire, its t and closed rounds, and the row
-abbrev pub state_of : {W : Type 0} {wires : Ghosts W} {K : Type 0} → Ringing W wires → List (Place K) → State K
-state_of {W} {wires} ringing row = state (wires.meaning ringing.wire) ringing.t ringing.closed row
-
--- the same of a wire's meaning, t and closed rounds
 abbrev pub state : {K : Type 0} → WireState → ℕ → ℕ → List (Place K) → State K
 state m t closed row = record { wire = m; t = t; closed = closed; row = map place_state row }
+
+-- a ringing with a row
+abbrev pub state_of : {W : Type 0} {wires : Ghosts W} {K : Type 0} → Ringing W wires → List (Place K) → State K
+state_of {W} {wires} ringing row = state (wires.meaning ringing.wire) ringing.t ringing.closed row
 
 -- each box that is up has posted its frame, and no other
 abbrev pub HasPosted : {K : Type 0} → Kind K → State K → Type 0

@@ -49,7 +49,6 @@ pub(crate) fn check_wire_fall<W: Wire>(wire: &W, q: BoxNumber, lost: BoxSet) -> 
 }
 
 impl<W: Wire> Ringing<W> {
-    ghost use Rattle.machine.specs.Calls as rows;
     ghost use Rattle.machine.specs.RowCheck.{is_other, is_misplaced, row_verdict};
     ghost use Rattle.machine.specs.FallCall.{on_fall};
     ghost use Rattle.machine.specs.RoundCall.{on_round};
@@ -102,7 +101,7 @@ impl<W: Wire> Ringing<W> {
         q: BoxNumber,
         lost: BoxSet,
     ) -> Result<(), Refusal>
-        ensures { result ≡ rows.answer (on_fall q lost (state_of self.now row.now)) }
+        ensures { result ≡ answer (on_fall q lost (state_of self.now row.now)) }
     {
         self.check_row(row)?;
         if is_over(row) {
@@ -121,7 +120,7 @@ impl<W: Wire> Ringing<W> {
         row: &[Place<K>],
         room: usize,
     ) -> Result<(), Refusal>
-        ensures { result ≡ rows.answer (on_round K.kind room (state_of self.now row.now)) }
+        ensures { result ≡ answer (on_round K.kind room (state_of self.now row.now)) }
     {
         self.check_row(row)?;
         if room < LONGEST_FRAME {

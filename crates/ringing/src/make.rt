@@ -55,7 +55,7 @@ pub(crate) fn set_up<W: Wire, K: Proposal>(
     ensures answer { result ≡ answer (on_make n t (W.meaning wire.now) (length row.old) proposals.now) }
     ensures row { OnOk result (map place_state row.new ≡ first_row n t proposals.now) }
     ensures refused { OnErr result (row.new ≡ row.old) }
-    ensures is_company { OnOk result (is_company (W.meaning wire.now).n t ≡ true) }
+    ensures company { OnOk result (is_company (W.meaning wire.now).n t ≡ true) }
 {
     check_make(n, t, wire, row, proposals)?;
     for (p, proposal) in proposals.iter().enumerate() {

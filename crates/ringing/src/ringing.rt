@@ -18,7 +18,7 @@ pub struct Ringing<W: Wire> {
     pub(crate) t: u32,
     // How many rounds are closed.
     pub(crate) closed: u32,
-    ghost is_company: { is_company (W.meaning wire).n t ≡ true },
+    ghost company: { is_company (W.meaning wire).n t ≡ true },
 }
 
 impl<W: Wire> Ringing<W> {
@@ -49,7 +49,7 @@ impl<W: Wire> Ringing<W> {
         row: &mut [Place<K>],
         proposals: &[K],
     ) -> Result<Ringing<W>, Refused<W, Refusal>>
-        ensures ringing { result_map_both (λ r. state_of r row.new) (λ e. e) result ≡ map_fault (refused_with wire) (on_make n t (W.meaning wire) (length row.old) proposals.now) }
+        ensures answer { result_map_both (λ r. state_of r row.new) (λ e. e) result ≡ map_fault (refused_with wire) (on_make n t (W.meaning wire) (length row.old) proposals.now) }
         ensures refused { OnErr result (row.new ≡ row.old) }
         ensures promised { let m = W.meaning wire in IfOk (on_make n t m (length row.old) proposals.now) (λ s. (past_end : K) (calls : List Request) → IsPromised K.kind m.posted calls s (undrawn_log (first_history n t proposals.now past_end))) }
     {

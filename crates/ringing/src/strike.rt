@@ -66,7 +66,7 @@ impl<W: Wire> Ringing<W> {
     // Hands out the strike order of box p, which is then out.
     #[tactic(auto, unfolding(machine::specs::OrderCalls::on_draw))]
     pub fn draw<K: Proposal>(&self, row: &mut [Place<K>], p: BoxNumber) -> Result<StrikeOrder, Refusal>
-        ensures order { let s = state_of self.now row.old in result ≡ handed_order p (on_draw p s) }
+        ensures answer { let s = state_of self.now row.old in result ≡ handed_order p (on_draw p s) }
         ensures steps { let s = state_of self.now row.old in StepsTo K.kind (request.Draw p) s (draw_reply result) (state_of self.now row.new) }
         ensures refused { OnErr result (row.new ≡ row.old) }
     {

@@ -48,7 +48,7 @@ fn play_round<W: Wire, K: Proposal>(
 ) -> bool
     requires { all_accepted K.kind (calls_in round.0 entries.now) (state_of ringing.old row.old) ≡ true }
     ensures state { let s = state_of ringing.old row.old in state_of ringing.new row.new ≡ state_after K.kind (calls_in round.0 entries.now) s }
-    ensures is_over { result ≡ is_over (state_of ringing.new row.new) }
+    ensures over { result ≡ is_over (state_of ringing.new row.new) }
 {
     let mut line = [0; LONGEST_FRAME];
     tell_falls(entries, round, ringing, row);

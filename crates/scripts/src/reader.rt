@@ -156,7 +156,7 @@ fn read_entries(
 // Reads the script that all the bytes make, lays its proposals into the places from the first on, and tells the rest. A refusal touches no place, so
 // the images are judged first and the proposals laid last: a copy would be an array of an open kind, which cannot be had.
 pub fn read_script<K: Proposal>(bytes: &[u8], places: &mut [K]) -> Result<Script, Refusal>
-    ensures script { result_map_both values_of (λ e. e) result ≡ result_map_both (λ x. x.0) (λ e. e) (read_script K.kind (length places.old) bytes.now) }
+    ensures answer { result_map_both values_of (λ e. e) result ≡ result_map_both (λ x. x.0) (λ e. e) (read_script K.kind (length places.old) bytes.now) }
     ensures places { places.new ≡ places_after (read_script K.kind (length places.old) bytes.now) places.old }
 {
     let head = read_head(bytes, places.len())?;

@@ -13,7 +13,7 @@ give_all_back-requires g c =
     let r = c.in-Ok.ringing in
     let end = state (w e.ringing.wire) e.ringing.t e.ringing.closed e.row in
     let first = state (w r.wire) r.t r.closed c.make.new.row in
-    let made = made_of c.args.wire _ first c.in-Ok.ensures.ringing in
+    let made = made_of c.args.wire _ first c.in-Ok.ensures.answer in
     let some = (get_some c.args.proposals.now 0 (omega (arith, c.told-proposals))).0 in
     ready_all end e.orders c.make_calls-performed.result
     (λ a. a) (λ b. (b _ _ _ _ _ first (g.met.W.Wire.formed c.args.wire) made some [] refl).0.good) (λ x. x.2)

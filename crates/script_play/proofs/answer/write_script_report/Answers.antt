@@ -13,7 +13,7 @@ pub returns : goal.returns
 returns c past_end =
     let s = c.in_ok-script.script in
     let r = read_script piece_kind 32 c.args.bytes.now in
-    let read = read_ok r (values_of s) c.in_ok-script.ensures.script in
+    let read = read_ok r (values_of s) c.in_ok-script.ensures.answer in
     let stands = (c.scripts_laws.ensures.only 32 c.args.bytes.now (values_of s) read.0 (bytes_small c.args.bytes.now c.type_inv.bytes) read.1).0 in
     let same = laid_first r (values_of s) read.0 _ c.read_script.new.places c.n-n.result read.1 c.in_ok-script.ensures.places (let n = c.n-n.ensures in let l = stands.whole in omega arith) in
     let there = c.play_on_board-ringing.ensures past_end ∙ ap (λ ps. state_by piece_leads (history_of (values_of s) ps past_end) piece_image (λ _. None)) same in

@@ -10,11 +10,11 @@ returns-in_err-ringing-clause-rings g c past_end =
 
 pub play_rounds-requires : goal.play_rounds-requires
 play_rounds-requires g c =
-    made_goes c.play_laws.ensures.plays c.args.script.now (g.met.W.Wire.formed c.args.wire) _ _ _ (let e = c.n.ensures in cc) (let e = c.t.ensures in cc) c.in_ok-ringing.ensures.ringing
+    made_goes c.play_laws.ensures.plays c.args.script.now (g.met.W.Wire.formed c.args.wire) _ _ _ (let e = c.n.ensures in cc) (let e = c.t.ensures in cc) c.in_ok-ringing.ensures.answer
 
 pub returns-clause-played : goal.returns-clause-played
 returns-clause-played g c past_end =
-    made_plays c.play_laws.ensures.plays c.args.script.now (g.met.W.Wire.formed c.args.wire) _ _ _ c.n.ensures c.t.ensures c.in_ok-ringing.ensures.ringing past_end c.play_rounds.ensures
+    made_plays c.play_laws.ensures.plays c.args.script.now (g.met.W.Wire.formed c.args.wire) _ _ _ c.n.ensures c.t.ensures c.in_ok-ringing.ensures.answer past_end c.play_rounds.ensures
 
 pub returns-clause-rings : goal.returns-clause-rings
 returns-clause-rings g c past_end =
@@ -27,5 +27,5 @@ returns-clause-goes g c past_end =
 
 pub returns-clause-answer : goal.returns-clause-answer
 returns-clause-answer g c =
-    let made = made_so c.play_laws.ensures.plays c.args.script.now (g.met.W.Wire.formed c.args.wire) _ _ _ c.n.ensures c.t.ensures c.in_ok-ringing.ensures.ringing in
+    let made = made_so c.play_laws.ensures.plays c.args.script.now (g.met.W.Wire.formed c.args.wire) _ _ _ c.n.ensures c.t.ensures c.in_ok-ringing.ensures.answer in
     grind arith

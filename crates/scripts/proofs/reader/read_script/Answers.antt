@@ -12,7 +12,7 @@ returns-in_err-head g c =
     let kind = g.K.Proposal.kind in
     let is = sym c.read_head.ensures ∙ c.in_err-head.was in
     let s = head_stop kind _ c.args.bytes.now _ is in
-    record { script = grind (arith, nat_tests); places = rw s refl }
+    record { answer = grind (arith, nat_tests); places = rw s refl }
 
 pub returns-in_err-next : goal.returns-in_err-next
 returns-in_err-next g c =
@@ -20,7 +20,7 @@ returns-in_err-next g c =
     let h = sym c.read_head.ensures ∙ c.in_ok-head.was in
     let is = told_refusal _ _ (sym c.judge_proposals.ensures ∙ c.in_err-next.was) in
     let s = proposals_stop kind _ c.args.bytes.now _ h _ is in
-    record { script = grind (arith, nat_tests); places = rw s refl }
+    record { answer = grind (arith, nat_tests); places = rw s refl }
 
 pub read_entries-requires : goal.read_entries-requires
 read_entries-requires g c =
@@ -34,7 +34,7 @@ returns-in_err-entries g c =
     let p = told_place _ _ (sym c.judge_proposals.ensures ∙ c.in_ok-next.was) in
     let is = sym (rw c.in_err-entries.was at c.read_entries.ensures) in
     let s = entries_stop kind _ c.args.bytes.now _ h _ _ p.1 _ is in
-    record { script = grind (arith, nat_tests); places = rw s refl }
+    record { answer = grind (arith, nat_tests); places = rw s refl }
 
 pub returns-then-end-bytes : goal.returns-then-end-bytes
 returns-then-end-bytes g c =
@@ -43,7 +43,7 @@ returns-then-end-bytes g c =
     let p = told_place _ _ (sym c.judge_proposals.ensures ∙ c.in_ok-next.was) in
     let q = sym (rw c.in_ok-entries.was at c.read_entries.ensures) in
     let s = surplus_stop kind _ c.args.bytes.now _ h _ _ p.1 _ _ q (omega arith) in
-    record { script = rw s refl; places = grind arith }
+    record { answer = rw s refl; places = grind arith }
 
 pub slice_bounds-read_proposals-end : goal.slice_bounds-read_proposals-end
 slice_bounds-read_proposals-end g c =
@@ -83,4 +83,4 @@ returns g c =
     let e = rw (c.in_ok-read_proposals.was, length-take-le _ c.args.places.now is.room) at c.read_proposals.ensures in
     let same = ap (λ x. x.0) (read_once _ _ (e ∙ p.1)) in
     let long = several_length _ _ _ _ p.1 in
-    record { script = rw s refl; places = rw (s, same, long) refl }
+    record { answer = rw s refl; places = rw (s, same, long) refl }

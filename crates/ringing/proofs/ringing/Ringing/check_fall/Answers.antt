@@ -1,9 +1,9 @@
 use Rattle.std.proofs.Common.{sym, ◌∙◌, arith}
 use Rattle.machine.proofs.CheckedRow.{over_is}
-use Rattle.ringing.specs.RingingStates.{state_of, state}
+use Rattle.ringing.specs.RingingStates.{state_of}
 use Rattle.ringing.proofs.RowRefused.{gone_counted}
 use Rattle.ringing.proofs.FallByExit.{is_checked, not_checked, tell_bad, tell_over, answer_refused, answer_spent, answer_ok}
-use Rattle.ringing.proofs.ringing.Ringing.check_wire_fall.Goals as goal
+use Rattle.ringing.proofs.ringing.Ringing.check_fall.Goals as goal
 
 pub returns-in_err-check_row : goal.returns-in_err-check_row
 returns-in_err-check_row g c =

@@ -1,6 +1,6 @@
 use Rattle.std.proofs.Common.{sym, ◌∙◌, arith}
 use Rattle.machine.proofs.CheckedRow.{over_is}
-use Rattle.ringing.specs.RingingStates.{state_of, state}
+use Rattle.ringing.specs.RingingStates.{state_of}
 use Rattle.ringing.proofs.FallByExit.{is_checked, not_checked}
 use Rattle.ringing.proofs.RoundByState.{play_bad, play_narrow, play_over, play_ok}
 use Rattle.ringing.proofs.ringing.Ringing.check_round.Goals as goal

@@ -3,7 +3,7 @@ use Rattle.std.specs.List.{slice_get}
 use Rattle.machine.specs.declared.place.Place.{Place}
 use Rattle.machine.specs.Places.{place_state}
 use Rattle.machine.specs.RowCheck.{is_misplaced}
-use Rattle.ringing.specs.RingingStates.{state_of, state}
+use Rattle.ringing.specs.RingingStates.{state_of}
 use Rattle.ringing.proofs.ringing.Ringing.check_row.Given as given
 
 abbrev pub invariant-loop-p : given.invariant-loop-p

@@ -1,7 +1,7 @@
 use Rattle.std.proofs.Common.{refl, sym, ap, ◌∙◌}
 use Rattle.machine.specs.OrderCalls.{state_after_draw}
 use Rattle.base.specs.Results.{or_kept}
-use Rattle.ringing.specs.RingingStates.{state_of, state}
+use Rattle.ringing.specs.RingingStates.{state_of}
 use Rattle.ringing.proofs.BlowWritten.{drawn_state, drawn_told}
 use Rattle.ringing.proofs.ringing.Ringing.draw.Goals as goal
 

@@ -17,4 +17,4 @@ returns-then-closed-self g c =
     let most : eqb b.t c.args.self.now.t ≡ true = grind (arith, nat_tests) in
     let rounds : eqb b.closed c.args.self.now.closed ≡ true = grind (arith, nat_tests) in
     subset ∙ (λ j. not (any (λ i. member (c.missing.ensures j) i && not (member c.down.result i)) 32))
-    ∙ λ j. not (not (sym number j && sym kind j && sym most j && sym rounds j) || same j)
+    ∙ λ j. not (not (sym number j && sym limits j && sym most j && sym rounds j) || same j)

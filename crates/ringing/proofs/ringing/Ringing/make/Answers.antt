@@ -6,16 +6,16 @@ use Rattle.ringing.proofs.RoundByState.{state_same}
 use Rattle.ringing.proofs.MakeAccepted.{makes, makes_not, if_made}
 use Rattle.ringing.proofs.ringing.Ringing.make.Goals as goal
 
-pub returns-in-Ok-clause-ringing : goal.returns-in-Ok-clause-ringing
-returns-in-Ok-clause-ringing g c =
+pub returns-in-Ok-clause-answer : goal.returns-in-Ok-clause-answer
+returns-in-Ok-clause-answer g c =
     let m = g.W.Wire.meaning c.args.wire in
     let k = makes c.args.n c.args.t m (length c.args.row.now) c.args.proposals.now c.in-Ok.ensures.answer in
     ap Ok (state_same refl refl (omega arith) c.in-Ok.ensures.row) ∙ sym (ap (map_fault (refused_with c.args.wire)) k.made)
 
-pub returns-in-Err-clause-ringing : goal.returns-in-Err-clause-ringing
-returns-in-Err-clause-ringing g c =
+pub returns-in-Err-clause-answer : goal.returns-in-Err-clause-answer
+returns-in-Err-clause-answer g c =
     let m = g.W.Wire.meaning c.args.wire in
-    sym (ap (map_fault (refused_with c.args.wire)) (makes_not c.args.n c.args.t m (length c.args.row.now) c.args.proposals.now c.in-Err.refusal c.in-Err.ensures.answer))
+    sym (ap (map_fault (refused_with c.args.wire)) (makes_not c.args.n c.args.t m (length c.args.row.now) c.args.proposals.now c.in-Err.fault c.in-Err.ensures.answer))
 
 pub returns-in-Ok-clause-promised : goal.returns-in-Ok-clause-promised
 returns-in-Ok-clause-promised g c =

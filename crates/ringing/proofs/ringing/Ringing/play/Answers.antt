@@ -1,7 +1,7 @@
 use Rattle.std.proofs.Common.{length, refl, sym, ap, ◌∙◌, arith}
 use Rattle.sets.specs.Companies.{is_company}
 use Rattle.base.specs.Results.{or_kept}
-use Rattle.ringing.specs.RingingStates.{state_of, state}
+use Rattle.ringing.specs.RingingStates.{state_of}
 use Rattle.ringing.proofs.RoundByState.{state_same, played_ok, goes_on, rounds_fit}
 use Rattle.ringing.proofs.ringing.Ringing.play.Goals as goal
 

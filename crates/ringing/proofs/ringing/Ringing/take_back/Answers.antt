@@ -1,7 +1,7 @@
 use Rattle.std.proofs.Common.{refl, sym, ap, ◌∙◌}
 use Rattle.base.specs.Results.{or_kept}
 use Rattle.ringing.specs.OrderAnswers.{report_answer}
-use Rattle.ringing.specs.RingingStates.{state_of, state}
+use Rattle.ringing.specs.RingingStates.{state_of}
 use Rattle.ringing.proofs.BlowWritten.{reported_ok, reported_not}
 use Rattle.ringing.proofs.ringing.Ringing.take_back.Goals as goal
 
@@ -22,10 +22,10 @@ pub returns-in-Err-clause-answer : goal.returns-in-Err-clause-answer
 returns-in-Err-clause-answer g c =
     let r = c.args.self.now in
     let s = state_of r c.args.row.now in
-    sym (ap (report_answer c.args.order) (reported_not s c.args.order.number c.args.blow c.args.order.round c.in-Err.refusal (c.in-Err.ensures c.args.blow)))
+    sym (ap (report_answer c.args.order) (reported_not s c.args.order.number c.args.blow c.args.order.round c.in-Err.fault (c.in-Err.ensures c.args.blow)))
 
 pub returns-in-Err-clause-state : goal.returns-in-Err-clause-state
 returns-in-Err-clause-state g c =
     let r = c.args.self.now in
     let s = state_of r c.args.row.now in
-    sym (ap (or_kept s) (reported_not s c.args.order.number c.args.blow c.args.order.round c.in-Err.refusal (c.in-Err.ensures c.args.blow)))
+    sym (ap (or_kept s) (reported_not s c.args.order.number c.args.blow c.args.order.round c.in-Err.fault (c.in-Err.ensures c.args.blow)))
