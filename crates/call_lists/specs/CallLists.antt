@@ -1,5 +1,5 @@
 -- Calls that are made one after another. Assumes nothing.
-use Rattle.std.specs.Prelude.{◌≡◌, ℕ, Bool, not, List, [], ◌∷◌, length, Ok, Option, Result, nat_lt}
+use Rattle.std.specs.Prelude.{◌≡◌, ℕ, not, List, [], ◌∷◌, length, Ok, Option, Result, nat_lt}
 use Rattle.base.specs.declared.refusal.Refusal.{Refusal}
 use Rattle.base.specs.declared.refusal.Refusal.TheVariants as refusal
 use Rattle.base.specs.Refusals.{unless}
@@ -7,8 +7,10 @@ use Rattle.wire.specs.WireState.{WireState, IsWellFormed}
 use Rattle.machine.specs.State.{State}
 use Rattle.machine.specs.MakeCall.{on_make}
 use Rattle.promise.specs.declared.request.Request.{Request}
-use Rattle.promise.specs.CallLog.{Log, first_history, undrawn_log, log_after}
+use Rattle.promise.specs.CallLog.{Answer, Log, first_history, undrawn_log, log_after}
 use Rattle.promise.specs.CallSteps.{state_after, answers_to}
+use Rattle.promise.specs.Promise.{OneRing}
+use Rattle.promise.specs.PromiseLaws.{FollowsRule}
 use Rattle.ringing.specs.declared.strike.StrikeOrder.{StrikeOrder}
 use Rattle.call_lists.specs.OrdersInHand.{are_out}
 use Rattle.proposals.specs.Kinds.{Kind}
@@ -23,3 +25,8 @@ abbrev pub HoldsFromMake : {K : Type 0} → Kind K → State K → ((ℕ → Opt
 HoldsFromMake {K} kind s Holds = (n t places : ℕ) (m : WireState) (proposals : List K) (first : State K) → IsWellFormed m → on_make n t m places proposals ≡ Ok first
     → (past_end : K) (before : List Request) → s ≡ state_after kind before first
     → Holds m.posted (log_after before (answers_to kind before first) (undrawn_log (first_history n t proposals past_end)))
+
+-- what the make promises holds at the end of calls with these answers, from state s to another
+abbrev pub KeepsPromise : {K : Type 0} → Kind K → List Request → List (Answer K) → (s end : State K) → Type 0
+KeepsPromise kind calls answers s end =
+    HoldsFromMake kind s (λ unopened log. FollowsRule kind unopened end (log_after calls answers log) × OneRing kind end (log_after calls answers log).history)

@@ -13,7 +13,7 @@ ghost use Rattle.promise.specs.PromiseLaws.{FollowsRule};
 ghost use Rattle.ringing.specs.OrderAnswers.{report_answer, report_reply};
 ghost use Rattle.ringing.specs.RingingStates.{state_of};
 ghost use Rattle.call_lists.specs.OrdersInHand.{orders_out, report_blow, orders_put_back, HasFreeSlot};
-ghost use Rattle.call_lists.specs.CallLists.{on_calls, HoldsFromMake};
+ghost use Rattle.call_lists.specs.CallLists.{on_calls, KeepsPromise};
 
 use super::hand::{are_out, keep, take_order};
 use frames::LONGEST_FRAME;
@@ -179,9 +179,9 @@ pub fn make_calls<W: Wire, K: Proposal>(
     ensures answers { let s = state_of ringing.old row.old in OnOk result (answers.new ≡ answers_to K.kind calls.now s ++ drop (length calls.now) answers.old) }
     ensures orders { OnOk result (orders.new ≡ orders_out (map place_state row.new)) }
     ensures refused { OnErr result ((ringing.new ≡ ringing.old) × (row.new ≡ row.old) × (orders.new ≡ orders.old) × (answers.new ≡ answers.old)) }
-    ensures promised { let s = state_of ringing.old row.old in let end = state_of ringing.new row.new in OnOk result (HoldsFromMake K.kind s (λ unopened course. let then = log_after calls.now answers.new course in FollowsRule K.kind unopened end then × OneRing K.kind end then.history)) }
+    ensures promised { OnOk result (KeepsPromise K.kind calls.now answers.new (state_of ringing.old row.old) (state_of ringing.new row.new)) }
 {
-    let _ = promise_laws::<K>();
+    promise_laws::<K>();
     if answers.len() < calls.len() || !are_out(row, orders) {
         return Err(Refusal::Row);
     }

@@ -24,7 +24,7 @@ pub fn echo<K: Proposal>(frame: Frame<K>, out: &mut [u8]) -> Result<Frame<K>, Re
     ensures answer { result ≡ (if nat_le (length (frame_bytes K.kind frame)) (length out.old) then Ok frame else Err Narrow) }
     ensures bytes { out.new ≡ with_front (frame_bytes K.kind frame) out.old }
 {
-    let _ = frames_laws::<K>();
+    frames_laws::<K>();
     let len = write_frame(frame, out)?;
     read_frame::<K>(&out[..len]).map_err(|fault| fault.refusal())
 }

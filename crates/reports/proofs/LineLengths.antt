@@ -14,7 +14,7 @@ use Rattle.machine.specs.declared.place.Blow.TheVariants as blow
 use Rattle.machine.specs.Places.{PlaceState, at_rest, down, rung, standing_of, standing_word, blow_word}
 use Rattle.reports.specs.Reports.{spaced_numbers, line_numbers, box_line, report_text, refusal_line}
 use Rattle.reports.specs.ReportLaws.{IsEarly, ReportLength, RefusalLength, Examples}
-use Rattle.proposals.specs.Kinds.{Kind}
+use Rattle.proposals.specs.Kinds.{Kind, IsKind}
 use Rattle.base.specs.Limits.{image_limit}
 
 -- ---- numbers with a space before each
@@ -82,15 +82,14 @@ image_short (n ∷ ns) (small, all) =
     let first = length-decimal-le 9 n (omega arith) (omega arith) (omega arith) in
     omega (arith, image_short ns all, length-append (decimal n) (spaced_numbers ns))
 
-module _ {K : Type 0} (kind : Kind K) (few : kind.size ≤ 4) (long : (x : K) → length (kind.image x) ≡ kind.size)
-    (small : (x : K) → AllByRecursion (λ n. n < image_limit) (kind.image x)) where
+module _ {K : Type 0} (kind : Kind K) (laws : IsKind kind) where
   told_short : (x : PlaceState K) → IsEarly x → length (spaced_numbers (line_numbers kind (standing_of x))) ≤ 43
   unfolding spaced_numbers
   told_short (at_rest b) early = omega arith
   told_short (down r) early = let round = length-decimal-le 2 r.0 (omega arith) early (omega arith) in omega (arith, length-append (decimal r.0) [])
   told_short (rung x) early =
       let round = length-decimal-le 2 x.round.0 (omega arith) early (omega arith) in
-      omega (arith, length-append (decimal x.round.0) (spaced_numbers (kind.image x.proposal)), image_short (kind.image x.proposal) (small x.proposal), long x.proposal)
+      omega (arith, length-append (decimal x.round.0) (spaced_numbers (kind.image x.proposal)), image_short (kind.image x.proposal) (laws.small x.proposal), laws.long x.proposal, laws.sized.1)
 
   line_short : (p : ℕ) (x : PlaceState K) → p < 100 → IsEarly x → length (box_line kind p (standing_of x)) ≤ 53
   unfolding box_line

@@ -1,5 +1,5 @@
 -- How long a report and the line of a refusal can be, and worked examples of both. Assumes nothing.
-use Rattle.std.specs.Prelude.{◌≡◌, ⊤, ℕ, ◌<◌, ◌≤◌, List, [], ◌∷◌, length, codes}
+use Rattle.std.specs.Prelude.{◌≡◌, ⊤, ℕ, true, None, ◌<◌, ◌≤◌, List, [], ◌∷◌, length, codes}
 use Rattle.std.specs.List.{AllByRecursion}
 use Rattle.base.specs.declared.refusal.Refusal.{Refusal}
 use Rattle.base.specs.declared.refusal.Refusal.TheVariants.{Silent}
@@ -27,7 +27,7 @@ IsEarly (rung x) = x.round.0 < 100
 
 -- a report of a company's boxes has no more bytes, if every round in it is below 100
 abbrev pub ReportLength : {K : Type 0} → Kind K → Type 0
-ReportLength {K} kind.image = (row : List (PlaceState K)) → length row ≤ most_company → AllByRecursion IsEarly row
+ReportLength {K} kind = (row : List (PlaceState K)) → length row ≤ most_company → AllByRecursion IsEarly row
     → length (report_text kind row) ≤ longest_report
 
 abbrev pub RefusalLength : Type 0
@@ -37,9 +37,13 @@ RefusalLength = (e : Refusal) → length (refusal_line e) ≤ longest_refusal
 abbrev rings : ℕ × ℕ → PlaceState (ℕ × ℕ)
 rings v = rung (record { round = record { 0 = 3 }; proposal = v; blow = blow.Undrawn })
 
+-- pairs of numbers with this image
+abbrev pairs_by : (ℕ × ℕ → List ℕ) → Kind (ℕ × ℕ)
+pairs_by image = record { size = 2; image = image; named = λ _. None; leads = λ _ _. true }
+
 -- boxes that propose a pair of numbers each, the first of which may be the whole image: two reports, and the line of a refusal
 abbrev pub Examples : Type 0
 Examples =
-    (report_text (λ v. v.0 ∷ []) (rings (20, 0) ∷ rings (20, 0) ∷ down (record { 0 = 1 }) ∷ rings (20, 0) ∷ []) ≡ codes "0 rings 3 20\n1 rings 3 20\n2 down 1\n3 rings 3 20\n")
-    × ((b : Held (ℕ × ℕ)) → report_text (λ v. v.0 ∷ v.1 ∷ []) (at_rest b ∷ rings (9, 16383) ∷ []) ≡ codes "0 up\n1 rings 3 9 16383\n")
+    (report_text (pairs_by (λ v. v.0 ∷ [])) (rings (20, 0) ∷ rings (20, 0) ∷ down (record { 0 = 1 }) ∷ rings (20, 0) ∷ []) ≡ codes "0 rings 3 20\n1 rings 3 20\n2 down 1\n3 rings 3 20\n")
+    × ((b : Held (ℕ × ℕ)) → report_text (pairs_by (λ v. v.0 ∷ v.1 ∷ [])) (at_rest b ∷ rings (9, 16383) ∷ []) ≡ codes "0 up\n1 rings 3 9 16383\n")
     × (refusal_line Silent ≡ codes "refused 17\n")

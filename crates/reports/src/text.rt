@@ -35,7 +35,7 @@ fn push_spaced<const N: usize>(text: &mut ArrayVec<u8, N>, n: u32)
 #[tactic(auto, using(crate::proofs::LineLengths::tells))]
 fn push_image<K: Proposal, const N: usize>(text: &mut ArrayVec<u8, N>, proposal: K)
     requires { length text.old.items + 44 ≤ N }
-    ensures items { text.new.items ≡ text.old.items ++ spaced_numbers (K.kind proposal) }
+    ensures items { text.new.items ≡ text.old.items ++ spaced_numbers (K.kind.image proposal) }
     ensures len { length text.new.items ≤ length text.old.items + 44 }
 {
     for i in 0..K::SIZE {

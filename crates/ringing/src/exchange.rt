@@ -31,7 +31,7 @@ fn post_frame<W: Wire, K: Proposal>(wire: &mut W, b: Resting<K>, line: &mut [u8]
     ensures answer { result ≡ answer (on_post b.held.number.0 (frame_bytes K.kind (frame_of b.held)) (W.meaning wire.old)) }
     ensures meaning { W.meaning wire.new ≡ or_kept (W.meaning wire.old) (on_post b.held.number.0 (frame_bytes K.kind (frame_of b.held)) (W.meaning wire.old)) }
 {
-    let _ = boxes_laws::<K>();
+    boxes_laws::<K>();
     let length = b.compose(line)?;
     wire.post(b.number(), &line[..length])
 }

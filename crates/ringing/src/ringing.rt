@@ -53,7 +53,7 @@ impl<W: Wire> Ringing<W> {
         ensures refused { OnErr result (row.new ≡ row.old) }
         ensures promised { let m = W.meaning wire in IfOk (on_make n t m (length row.old) proposals.now) (λ s. (past_end : K) (calls : List Request) → IsPromised K.kind m.posted calls s (undrawn_log (first_history n t proposals.now past_end))) }
     {
-        let _ = promise_laws::<K>();
+        promise_laws::<K>();
         match set_up(n, t, &wire, row, proposals) {
             Ok(()) => Ok(Ringing { wire, t, closed: 0 }),
             Err(fault) => Err(Refused { value: wire, fault }),

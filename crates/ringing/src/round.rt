@@ -36,7 +36,7 @@ impl<W: Wire> Ringing<W> {
         ensures refused { OnErr result ((self.new ≡ self.old) × (row.new ≡ row.old)) }
         ensures line { length line.new ≡ length line.old }
     {
-        let _ = machine_laws::<K>();
+        machine_laws::<K>();
         self.check_round(row, line.len())?;
         exchange_frames(&mut self.wire, RoundNumber(self.closed + 1), row, line)?;
         self.closed += 1;

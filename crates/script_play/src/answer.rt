@@ -32,7 +32,7 @@ fn play_on_board(script: &Script, pieces: &[Piece], row: &mut [Place<Piece>]) ->
     requires row { length row.old ≡ script.now.n }
     ensures { (past_end : Piece) → state (board_meaning result.wire) result.t result.closed row.new ≡ state_by piece_kind (history_of (values_of script.now) pieces.now past_end) (λ _. None) }
 {
-    let _ = machine_laws::<Piece>();
+    machine_laws::<Piece>();
     let board = Board::new(script.n()).unwrap();
     play(script, pieces, board, row).unwrap()
 }
@@ -42,10 +42,10 @@ fn write_script_report(bytes: &[u8], out: &mut [u8]) -> Result<usize, Refusal>
     requires { longest_report ≤ length out.old }
     ensures { (past_end : Piece) → let report = script_report piece_kind bytes.now past_end in (result ≡ result_map_both length (λ e. e) report) × (out.new ≡ report_bytes out.old report) }
 {
-    let _ = scripts_laws::<Piece>();
-    let _ = machine_laws::<Piece>();
-    let _ = play_laws::<Piece>();
-    let _ = reports_laws::<Piece>();
+    scripts_laws::<Piece>();
+    machine_laws::<Piece>();
+    play_laws::<Piece>();
+    reports_laws::<Piece>();
     let mut pieces = [Piece::new(0).unwrap(); PLACES];
     let mut places = [Place::Down(RoundNumber(0)); PLACES];
     let script = read_script(bytes, &mut pieces)?;
@@ -63,10 +63,10 @@ pub fn write_answer(bytes: &[u8], out: &mut [u8; LONGEST_REPORT]) -> usize
     ensures bytes { (past_end : Piece) → let text = answer_text piece_kind bytes.now past_end in out.new ≡ text ++ drop (length text) out.old }
     ensures plays { BytesPlay piece_kind bytes.now }
 {
-    let _ = scripts_laws::<Piece>();
-    let _ = machine_laws::<Piece>();
-    let _ = play_laws::<Piece>();
-    let _ = reports_laws::<Piece>();
+    scripts_laws::<Piece>();
+    machine_laws::<Piece>();
+    play_laws::<Piece>();
+    reports_laws::<Piece>();
     match write_script_report(bytes, out) {
         Ok(length) => length,
         Err(refusal) => write_refusal(refusal, out).unwrap(),

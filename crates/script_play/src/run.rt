@@ -83,7 +83,7 @@ pub fn play<W: Wire, K: Proposal>(
     ensures rings { (past_end : K) → let h = history_of (values_of script.now) proposals.now past_end in EndsRinging K.kind h × AllRing K.kind h }
     ensures goes { (past_end : K) → IfOk (on_make script.now.n script.now.t (W.meaning wire) (length row.old) proposals.now) (λ first. LeadsTo K.kind (W.meaning wire).posted (values_of script.now) (history_of (values_of script.now) proposals.now past_end) first) }
 {
-    let _ = play_laws::<K>();
+    play_laws::<K>();
     let mut ringing = Ringing::make(script.n(), script.t(), wire, row, proposals)?;
     play_rounds(script, &mut ringing, row);
     Ok(ringing)

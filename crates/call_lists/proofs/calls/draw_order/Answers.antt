@@ -1,5 +1,5 @@
 use Rattle.std.proofs.Common.{length, get_or, set, None, sym, ap, ◌∙◌, arith}
-use Rattle.ringing.specs.RingingStates.{state_of, state}
+use Rattle.ringing.specs.RingingStates.{state_of}
 use Rattle.call_lists.specs.OrdersInHand.{orders_out}
 use Rattle.call_lists.proofs.SlotLemmas.{orders_length, was_handed}
 use Rattle.call_lists.proofs.calls.draw_order.Goals as goal

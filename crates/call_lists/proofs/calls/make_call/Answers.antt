@@ -1,5 +1,5 @@
 use Rattle.std.proofs.Common.{ap, sym, ◌∙◌}
-use Rattle.ringing.specs.RingingStates.{state_of, state}
+use Rattle.ringing.specs.RingingStates.{state_of}
 use Rattle.call_lists.specs.OrdersInHand.{orders_out}
 use Rattle.call_lists.proofs.CallLemmas.{round_orders}
 use Rattle.call_lists.proofs.calls.make_call.Goals as goal

@@ -4,7 +4,7 @@ use Rattle.machine.specs.Places.{place_state}
 use Rattle.promise.specs.declared.request.Request.{Request}
 use Rattle.promise.specs.declared.request.Request.TheVariants as request
 use Rattle.promise.specs.CallSteps.{state_after, answers_to}
-use Rattle.ringing.specs.RingingStates.{state_of, state}
+use Rattle.ringing.specs.RingingStates.{state_of}
 use Rattle.call_lists.proofs.SlotLemmas.{out_all}
 use Rattle.call_lists.proofs.CallLemmas.{ends_on, answers_on, rest_on, ends_so, answers_so, goes_on}
 use Rattle.call_lists.proofs.calls.make_calls.Goals as goal

@@ -1,7 +1,7 @@
 use Rattle.std.proofs.Common.{◌≡◌, ◌++◌, length, map, take, drop}
 use Rattle.machine.specs.Places.{place_state}
 use Rattle.promise.specs.CallSteps.{state_after, answers_to}
-use Rattle.ringing.specs.RingingStates.{state_of, state}
+use Rattle.ringing.specs.RingingStates.{state_of}
 use Rattle.call_lists.specs.OrdersInHand.{orders_out}
 use Rattle.call_lists.proofs.calls.make_calls.Given as given
 

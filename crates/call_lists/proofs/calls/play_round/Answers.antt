@@ -1,7 +1,7 @@
 use Rattle.std.proofs.Common.{refl, ap, ◌∙◌}
 use Rattle.base.specs.Results.{or_kept}
 use Rattle.promise.specs.CallSteps.{done_answer}
-use Rattle.ringing.specs.RingingStates.{state_of, state}
+use Rattle.ringing.specs.RingingStates.{state_of}
 use Rattle.call_lists.proofs.CallLemmas.{playing_room, room_same}
 use Rattle.call_lists.proofs.calls.play_round.Goals as goal
 
