@@ -1,7 +1,7 @@
 -- The report of a script that is played on a new wire. Assumes nothing.
 use Rattle.base.specs.Results.{refused_with}
 use Rattle.base.specs.declared.refused.Refused.{Refused}
-use Rattle.std.proofs.Common.{◌≡◌, ℕ, suc, ◌<◌, ◌≤◌, Bool, true, false, cond, leb, ltb, List, [], ◌∷◌, length, take, drop, get_or, Fits, w8, Some, None, Option, Ok, Err, Result, sym, refl, ap, ◌∙◌, subst, arith}
+use Rattle.std.proofs.Common.{◌≡◌, ℕ, suc, ◌<◌, ◌≤◌, true, false, cond, leb, ltb, List, [], ◌∷◌, length, take, drop, get_or, Fits, w8, Some, None, Option, Ok, Err, Result, sym, refl, ap, ◌∙◌, subst, arith}
 use Rattle.std.specs.List.{slice_get, AllByRecursion}
 use Rattle.std.specs.Result.{result_map_both, IsOk}
 use Rattle.std.proofs.lemmas.Bool.Decides.{nat_tests}
@@ -43,16 +43,16 @@ fresh_up n q few l = (member_is (λ i. ltb i n) (new_wire n).up refl q (omega ar
 
 fresh_formed : (n t : ℕ) → is_company n t ≡ true → IsWellFormed (new_wire n)
 fresh_formed n t limits = record {
-  limits = grind arith;
+  size = grind arith;
   up_within = all_within n (new_wire n).up refl;
   falling = λ q s e. absurd (grind arith);
   posted = λ q f e. absurd (grind arith);
 }
 
 module _ (n a t : ℕ) (limits : is_company n t ≡ true) (same : a ≡ n) where
-  pub new_wire : (m : WireState) → Ok m ≡ wire.on_make a → m ≡ new_wire n
+  pub made_is_new : (m : WireState) → Ok m ≡ wire.on_make a → m ≡ new_wire n
   unfolding wire.on_make
-  new_wire m is = let k = ap wire.on_make same in grind (arith, nat_tests)
+  made_is_new m is = let k = ap wire.on_make same in grind (arith, nat_tests)
 
   pub board_made : {B : Type 0} (meaning : B → WireState) (r : Result B Refusal) → result_map_both meaning (λ e. e) r ≡ wire.on_make a → IsOk r
   unfolding wire.on_make
@@ -160,9 +160,9 @@ told_fits (Err e) out new k is written = absurd (grind arith)
 
 -- ---- what comes of bytes
 
-pub bytes_play : {K : Type 0} (kind : Kind K) (limits : ℕ) (kind : Kind K) (bytes : List ℕ) → MakeIsAccepted K → ScriptPlays kind
-    → ((s : ScriptValues) (ps : List K) → read_script limits kind most_company bytes ≡ Ok (s, ps) → MayBeRead most_company s ps) → BytesPlay kind limits kind bytes
-bytes_play kind limits kind bytes accepted plays stands s ps past_end is =
+pub bytes_play : {K : Type 0} (kind : Kind K) (bytes : List ℕ) → MakeIsAccepted K → ScriptPlays kind
+    → ((s : ScriptValues) (ps : List K) → read_script kind most_company bytes ≡ Ok (s, ps) → MayBeRead most_company s ps) → BytesPlay kind bytes
+bytes_play kind bytes accepted plays stands s ps past_end is =
     let k = stands s ps is in
     let e = plays s k.proper ps past_end in
     let m = made kind accepted s k.proper ps k.whole in

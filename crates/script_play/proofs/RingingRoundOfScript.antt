@@ -1,5 +1,5 @@
 -- In which round the boxes of a script ring, and what stands in their places then. Assumes nothing.
-use Rattle.std.proofs.Common.{◌≡◌, ℕ, suc, ◌+◌, ◌-◌, ◌<◌, ◌≤◌, Bool, true, cond, eqb, leb, ltb, ◌⊎◌, [], Some, None, refl, ap, ◌∙◌, inl, inr, arith}
+use Rattle.std.proofs.Common.{◌≡◌, ℕ, suc, ◌+◌, ◌-◌, ◌<◌, ◌≤◌, true, cond, eqb, leb, ltb, ◌⊎◌, Some, None, refl, ap, ◌∙◌, inl, inr, arith}
 use Rattle.std.specs.List.{slice_get}
 use Rattle.std.proofs.Math.Decide.{le_ind}
 use Rattle.std.proofs.lemmas.Bool.{cases_lt}
@@ -105,5 +105,5 @@ module _ {K : Type 0} (kind : Kind K) (agree : (h : History K) → Agreement h k
   pub stands : AllRing kind h
   stands q m = (
     λ f e. place_is q m ∙ ap Some (down_at q f e),
-    λ e. place_is q m ∙ ap Some (rings_stands kind h p.size (λ _. []) (λ _. None) q (closes_at q e) (all_ring q m (closes_at q e)).2),
+    λ e. place_is q m ∙ ap Some (rings_stands kind h p.size (λ _. None) q (closes_at q e) (all_ring q m (closes_at q e)).2),
   )

@@ -1,5 +1,5 @@
 -- What is answered to the bytes of a script. Assumes nothing.
-use Rattle.std.specs.Prelude.{ℕ, Bool, List, Ok, Err, Option, Result}
+use Rattle.std.specs.Prelude.{ℕ, List, Ok, Err, Result}
 use Rattle.std.specs.Result.{result_map_both}
 use Rattle.base.specs.declared.refusal.Refusal.{Refusal}
 use Rattle.base.specs.Limits.{most_company}

@@ -1,5 +1,5 @@
 -- What playing a script comes to. Assumes nothing.
-use Rattle.std.specs.Prelude.{◌≡◌, ℕ, ◌+◌, ◌<◌, ◌≤◌, Bool, true, false, Option, List, Some, None, Ok}
+use Rattle.std.specs.Prelude.{◌≡◌, ℕ, ◌+◌, ◌<◌, ◌≤◌, true, false, Option, List, Some, None, Ok}
 use Rattle.std.specs.List.{slice_get}
 use Rattle.base.specs.Limits.{most_company}
 use Rattle.wire.specs.WireState.{WireState, IsWellFormed, new_wire}
@@ -8,7 +8,7 @@ use Rattle.rule.specs.Falls.{closes}
 use Rattle.rule.specs.Histories.{History, IsAllowed, ringing_round}
 use Rattle.rule.specs.RuleValues.{estimate}
 use Rattle.rule.specs.RuleLaws.{RingsIn, IsQuietBefore, RingsOnOne, RingsOnProposal, RingsOnFirst}
-use Rattle.machine.specs.declared.place.Blow.TheVariants.{Rings}
+use Rattle.machine.specs.declared.place.Blow.TheVariants.{Undrawn}
 use Rattle.machine.specs.Places.{down, rung}
 use Rattle.machine.specs.State.{State}
 use Rattle.machine.specs.MakeCall.{on_make}
@@ -38,7 +38,7 @@ pub record EndsRinging {K : Type 0} (kind : Kind K) (h : History K) : Type 0 whe
 abbrev pub AllRing : {K : Type 0} → Kind K → History K → Type 0
 AllRing kind h = (p : ℕ) → p < h.n
     → ((f : Fall) → h.falls p ≡ Some f → slice_get (row_by kind h) p ≡ Some (down f.round))
-    × (h.falls p ≡ None → slice_get (row_by kind h) p ≡ Some (rung (record { round = record { 0 = h.closed }; proposal = estimate h kind p h.closed; blow = Rings })))
+    × (h.falls p ≡ None → slice_get (row_by kind h) p ≡ Some (rung (record { round = record { 0 = h.closed }; proposal = estimate h kind p h.closed; blow = Undrawn })))
 
 -- played from this state on, in 1 to t + 1 rounds, each call is accepted, the boxes ring after the last round and not before, and the row is not
 -- refused then

@@ -1,5 +1,5 @@
 -- How a script is played, and what it comes to by the rule. Assumes nothing.
-use Rattle.std.specs.Prelude.{ℕ, zero, suc, ◌+◌, ◌-◌, Bool, if◌then◌else◌, List, [], ◌∷◌, ◌++◌, get_or, Result, ◌==◌}
+use Rattle.std.specs.Prelude.{ℕ, zero, suc, ◌+◌, ◌-◌, if◌then◌else◌, List, [], ◌∷◌, ◌++◌, get_or, Result, ◌==◌}
 use Rattle.std.specs.Result.{result_map_both}
 use Rattle.base.specs.declared.refusal.Refusal.{Refusal}
 use Rattle.frames.specs.Frames.{longest_frame}

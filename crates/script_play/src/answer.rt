@@ -2,9 +2,8 @@
 ghost use Rattle.std.specs.Prelude.{◌≡◌, ◌≤◌, ◌++◌, length, drop, None};
 ghost use Rattle.std.specs.Result.{result_map_both};
 ghost use Rattle.proposals.specs.Pieces.{piece_kind};
-ghost use Rattle.wire.specs.Wires.{board_meaning};
 ghost use Rattle.promise.specs.StateByHistory.{state_by};
-ghost use Rattle.ringing.specs.RingingStates.{state};
+ghost use Rattle.ringing.specs.RingingStates.{state_of};
 ghost use Rattle.scripts.specs.ScriptValues.{values_of};
 ghost use Rattle.reports.specs.Reports.{report_bytes};
 ghost use Rattle.reports.specs.ReportLaws.{longest_report};
@@ -30,7 +29,7 @@ const PLACES: usize = MOST_COMPANY as usize;
 fn play_on_board(script: &Script, pieces: &[Piece], row: &mut [Place<Piece>]) -> Ringing<Board>
     requires pieces { length pieces.now ≡ script.now.n }
     requires row { length row.old ≡ script.now.n }
-    ensures { (past_end : Piece) → state (board_meaning result.wire) result.t result.closed row.new ≡ state_by piece_kind (history_of (values_of script.now) pieces.now past_end) (λ _. None) }
+    ensures { (past_end : Piece) → state_of result row.new ≡ state_by piece_kind (history_of (values_of script.now) pieces.now past_end) (λ _. None) }
 {
     machine_laws::<Piece>();
     let board = Board::new(script.n()).unwrap();

@@ -1,4 +1,3 @@
-use Rattle.std.proofs.Common.{arith}
 use Rattle.script_play.proofs.EntryLemmas.{entries_count}
 use Rattle.script_play.proofs.CallByCall.{script_plays}
 use Rattle.script_play.proofs.AnswersComputed.{examples}

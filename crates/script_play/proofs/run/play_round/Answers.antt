@@ -3,7 +3,7 @@ use Rattle.std.specs.Result.{IsOk}
 use Rattle.frames.specs.Frames.{longest_frame}
 use Rattle.machine.specs.RoundCall.{on_round}
 use Rattle.machine.proofs.CheckedRow.{over_is}
-use Rattle.ringing.specs.RingingStates.{state_of, state}
+use Rattle.ringing.specs.RingingStates.{state_of}
 use Rattle.promise.specs.declared.request.Request.TheVariants as request
 use Rattle.promise.specs.CallSteps.{state_after_call}
 use Rattle.promise.proofs.CallAnswers.{done_ok}

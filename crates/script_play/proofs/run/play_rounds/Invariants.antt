@@ -1,4 +1,4 @@
-use Rattle.ringing.specs.RingingStates.{state_of, state}
+use Rattle.ringing.specs.RingingStates.{state_of}
 use Rattle.scripts.specs.ScriptValues.{values_of}
 use Rattle.script_play.proofs.RoundOfScript.{Here}
 use Rattle.script_play.proofs.run.play_rounds.Given as given

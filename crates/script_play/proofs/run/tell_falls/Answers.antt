@@ -1,6 +1,6 @@
 use Rattle.std.proofs.Common.{◌+◌, drop, subst, sym, ap, ◌∙◌}
 use Rattle.std.specs.Result.{IsOk}
-use Rattle.ringing.specs.RingingStates.{state_of, state}
+use Rattle.ringing.specs.RingingStates.{state_of}
 use Rattle.promise.specs.CallSteps.{state_after, all_accepted}
 use Rattle.scripts.specs.declared.entry.Entry.{Entry}
 use Rattle.script_play.specs.ScriptCalls.{falls_before}

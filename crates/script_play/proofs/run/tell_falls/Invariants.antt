@@ -1,5 +1,5 @@
 use Rattle.std.proofs.Common.{◌≡◌, true, drop}
-use Rattle.ringing.specs.RingingStates.{state_of, state}
+use Rattle.ringing.specs.RingingStates.{state_of}
 use Rattle.promise.specs.CallSteps.{state_after, all_accepted}
 use Rattle.script_play.specs.ScriptCalls.{falls_before}
 use Rattle.script_play.proofs.run.tell_falls.Given as given
