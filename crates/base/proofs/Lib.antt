@@ -1,2 +1,3 @@
+pub mod BufferLemmas
 pub mod CountLemmas
 pub mod NumberedLemmas

@@ -1,4 +1,4 @@
--- Lists whose elements are taken with their numbers. Assumes nothing.
+-- Lists whose elements are taken with their numbers.
 use Rattle.std.proofs.Common.{◌≡◌, ℕ, zero, suc, ◌+◌, ◌<◌, Bool, true, false, cond, ◌||◌, eqb, ltb, List, [], ◌∷◌, length, map, set, Some, None, option_map, sym, refl, ap, ◌∙◌, arith}
 use Rattle.std.specs.List.{list_any, enumerate_from, slice_get, range_with_len}
 use Rattle.std.proofs.lemmas.Bool.{both_ways}

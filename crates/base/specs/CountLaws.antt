@@ -8,7 +8,9 @@ IsWithin P Q n = (k : ℕ) → k < n → P k ≡ true → Q k ≡ true
 
 -- some number below n passes exactly if one can be named
 abbrev pub AnyHasWitness : Type 0
-AnyHasWitness = (P : ℕ → Bool) (n : ℕ) → (any P n ≡ true → (k : ℕ) × (k < n) × (P k ≡ true)) × ((k : ℕ) → k < n → P k ≡ true → any P n ≡ true)
+AnyHasWitness = (P : ℕ → Bool) (n : ℕ)
+    → (any P n ≡ true → (k : ℕ) × (k < n) × (P k ≡ true))
+    × ((k : ℕ) → k < n → P k ≡ true → any P n ≡ true)
 
 -- a subset counts no more
 abbrev pub SubsetCountsNoMore : Type 0

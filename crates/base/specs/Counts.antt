@@ -1,4 +1,4 @@
--- Tests on numbers, and what is said of the numbers below n that pass. Assumes nothing.
+-- How many of the numbers below n pass a test, and whether one does. To be believed for every promise that counts boxes.
 use Rattle.std.specs.Prelude.{ℕ, zero, suc, ◌+◌, Bool, false, if◌then◌else◌, ◌||◌}
 
 -- how many numbers below n pass

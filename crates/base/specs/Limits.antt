@@ -1,11 +1,11 @@
--- The limits of numbers, images, companies and frames, each with its name. To be believed for every promise.
+-- The limits of numbers, images and companies, each with its name. To be believed for every promise.
 use Rattle.std.specs.Prelude.{ℕ, ◌^◌}
 
--- numbers that are written and read are below it
+-- the numbers that are written and read are below this
 abbrev pub number_limit : ℕ
 number_limit = 2 ^ 32
 
--- and so are those of an image below this
+-- and the numbers of an image below this, 2 ^ 28: they take four groups of seven bits at most
 abbrev pub image_limit : ℕ
 image_limit = 268435456
 

@@ -1,4 +1,4 @@
--- Lists whose elements are taken with their numbers, from 0. Assumes nothing.
+-- Lists whose elements are taken with their numbers, from 0. To be believed for every promise on rows of boxes.
 use Rattle.std.specs.Prelude.{ℕ, Bool, List, map}
 use Rattle.std.specs.List.{list_any, enumerate_from}
 

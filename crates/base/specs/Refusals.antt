@@ -1,8 +1,9 @@
--- The number and the word of each refusal, and which of several is given. Assumes nothing.
+-- The number and the word of each refusal, and which of several is given. To be believed for every promise on refusals.
 use Rattle.std.specs.Prelude.{ℕ, Bool, if◌then◌else◌, List, [], ◌∷◌, ◌++◌, Ok, Err, codes, decimal, Result}
 use Rattle.base.specs.declared.refusal.Refusal.{Refusal}
 use Rattle.base.specs.declared.refusal.Refusal.TheVariants.{Short, Wide, Padded, Surplus, Stranger, OffBeat, Heard, Set, Image, Tally, Company, Row, Wire, Down, Spent, Over, Silent, Order, Narrow, Posted, Entry}
 
+-- the number, from 1
 abbrev pub number_of : Refusal → ℕ
 number_of Short = 1
 number_of Wide = 2

@@ -1,4 +1,4 @@
-//! What every layer stands on: the refusals with number and word, and the struct in which a refused call gives back what it was handed.
+//! What every layer stands on: why a call may be refused, and the struct in which a refused call gives back what it was handed.
 #![tactic(auto)]
 
 mod laws;

@@ -1,64 +1,67 @@
-// Why a call was refused. Every refusing call of every layer tells one of these, alone or inside a fault.
+// Why a call was refused.
 ghost use Rattle.std.specs.Prelude.{◌≡◌, Some};
 ghost use Rattle.base.specs.Refusals.{number_of, word_of, refusal_text};
 
 use std::error::Error;
 use std::fmt;
 
+/// Why a call was refused: each reason has a number, from 1, and a word. Every refusing call of every layer gives one of these, alone or inside
+/// a fault.
 #[derive(Clone, Copy, Debug, PartialEq, Eq)]
 pub enum Refusal {
-    // The bytes end too soon.
+    /// 1, "short": the bytes end too soon.
     Short = 1,
-    // The number is too large.
+    /// 2, "wide": the number is too large.
     Wide = 2,
-    // A number begins with an empty group, 80 (hex).
+    /// 3, "padded": a number begins with an empty group, 80 (hex).
     Padded = 3,
-    // Bytes follow the last field.
+    /// 4, "surplus": bytes follow the last field.
     Surplus = 4,
-    // A box number is not below n.
+    /// 5, "stranger": a box number is not below n.
     Stranger = 5,
-    // The frame is of another round.
+    /// 6, "off beat": the frame is of another round.
     OffBeat = 6,
-    // This sender was heard in this round.
+    /// 7, "heard": this sender was heard in this round.
     Heard = 7,
-    // A set has a bit that it may not have.
+    /// 8, "set": a set has a bit that it may not have.
     Set = 8,
-    // No proposal has this image.
+    /// 9, "image": no proposal has this image.
     Image = 9,
-    // Too many boxes are missing, or one that was heard is told missing.
+    /// 10, "tally": too many boxes are missing, or one that was heard is told missing.
     Tally = 10,
-    // n or t is outside its limits.
+    /// 11, "company": n or t is outside its limits.
     Company = 11,
-    // The row does not belong to this ringing as it stands, or there are not as many places as are needed.
+    /// 12, "row": the row does not belong to this ringing as it stands, or there are not as many places as are needed.
     Row = 12,
-    // The wire does not fit a new ringing.
+    /// 13, "wire": the wire does not fit a new ringing.
     Wire = 13,
-    // The box is down, falling or missing.
+    /// 14, "down": the box is down, falling or missing.
     Down = 14,
-    // t falls were accepted.
+    /// 15, "spent": t falls were accepted.
     Spent = 15,
-    // A box of the row rings.
+    /// 16, "over": a box of the row rings.
     Over = 16,
-    // The box, or the ringing, does not ring.
+    /// 17, "silent": the box, or the ringing, does not ring.
     Silent = 17,
-    // The strike order was drawn already, or is not out.
+    /// 18, "order": the strike order was drawn already, or is not out.
     Order = 18,
-    // Too few bytes are given, or a frame to post is empty or too long.
+    /// 19, "narrow": too few bytes are given, or a frame to post is empty or too long.
     Narrow = 19,
-    // The box has posted in this round.
+    /// 20, "posted": the box has posted in this round.
     Posted = 20,
-    // A script has more entries than t, or one of a round or of a box that it may not have.
+    /// 21, "entry": a script has more entries than t, or one of a round or of a box that it may not have.
     Entry = 21,
 }
 
 impl Refusal {
-    // By `as`, which is how an enum tells its number.
+    /// The number of the refusal, from 1 to 21.
     pub fn number(self) -> u8
         ensures { result ≡ number_of self }
     {
         self as u8
     }
 
+    /// The word of the refusal, in small letters.
     pub fn word(self) -> &'static str
         ensures { result.now ≡ word_of self }
     {
@@ -88,7 +91,7 @@ impl Refusal {
     }
 }
 
-// Number and word, as in `19 narrow`.
+/// The number in decimal and the word, with a space between, as in `19 narrow`.
 impl fmt::Display for Refusal {
     ghost output = { λ e. Some (refusal_text e) };
 
