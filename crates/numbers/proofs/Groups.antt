@@ -1,4 +1,4 @@
--- The bytes of a number, group by group. Assumes nothing.
+-- The bytes of a number, group by group.
 use Rattle.std.proofs.Common.{◌≡◌, ℕ, ◌*◌, zero, suc, refl, ◌-◌, ◌+◌, ◌/◌, ◌%◌, ◌^◌, ◌<◌, ◌≤◌, List, [], ◌∷◌, ◌++◌, map, length, drop, set, max, ap, ◌∙◌, pow-suc, arith, length-append}
 use Rattle.std.proofs.Math.Nat.{one-le-pow}
 use lib.Bits.{bit_and, bit_or}

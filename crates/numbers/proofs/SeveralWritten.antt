@@ -1,4 +1,4 @@
--- Numbers one after another. Assumes nothing.
+-- Numbers one after another.
 use Rattle.std.proofs.Common.{◌≡◌, ℕ, ◌+◌, ◌-◌, ◌<◌, ◌≤◌, List, [], ◌∷◌, ◌++◌, length, get_or, take, drop, Ok, refl, arith, length-append}
 use Rattle.std.proofs.lemmas.List.{take_rest}
 use Rattle.std.proofs.lemmas.List.Folds.{length-flat_map-take}
@@ -6,6 +6,7 @@ use Rattle.std.proofs.lemmas.Grind.{common_steps, flat_map-append}
 use borrow.Rule.Slice.PartMut.{put_mid}
 use Rattle.numbers.specs.Numbers.{number_bytes, numbers_bytes}
 use Rattle.base.specs.Buffers.{with_front, len_if_room}
+use Rattle.base.proofs.BufferLemmas.{with_front-fits}
 
 pub written_all-cons : (n : ℕ) (ns : List ℕ) → numbers_bytes (n ∷ ns) ≡ number_bytes n ++ numbers_bytes ns
 unfolding numbers_bytes
@@ -34,6 +35,7 @@ told_rest w out at fits = rw (take_rest out at) (grind (arith, common_steps))
 
 pub put_rest : (R w out first : List ℕ) (at : ℕ) → out ≡ R ++ drop at first → at ≡ length R → at + length w ≤ length first
     → put_mid at (length out - at) out (with_front w (take (length out - at) (drop at out))) ≡ (R ++ w) ++ drop (at + length w) first
-put_rest R w out first at done long fits = rw (take_rest out at) (grind (arith, common_steps))
+put_rest R w out first at done long fits =
+    rw (take_rest out at, with_front-fits w (drop at out) (grind (arith, common_steps))) (grind (arith, common_steps))
 
 pub ruleset lays = (next_fits, written_all-nil, written_all-more, told_rest, length-append)

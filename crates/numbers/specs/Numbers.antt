@@ -1,5 +1,6 @@
--- How a number stands in bytes: in groups of seven bits, the highest group first, and every byte but the last with its top bit set. Assumes nothing.
-use Rattle.std.specs.Prelude.{ℕ, ◌+◌, ◌/◌, ◌%◌, ◌^◌, Bool, if◌then◌else◌, ◌&&◌, List, [], ◌∷◌, ◌++◌, map, length, take, drop, Ok, Err, codes, decimal, Result, ◌==◌, nat_le, nat_lt, slice_index}
+-- How a number stands in bytes: in groups of seven bits, the highest group first, and every byte but the last with its top bit set. To be believed
+-- for every promise on bytes.
+use Rattle.std.specs.Prelude.{ℕ, ◌+◌, ◌/◌, ◌%◌, Bool, if◌then◌else◌, ◌&&◌, List, [], ◌∷◌, ◌++◌, map, length, take, drop, Ok, Err, codes, decimal, Result, ◌==◌, nat_le, nat_lt, slice_index}
 use Rattle.std.specs.Int.Digits.{digits_of, number_from_digits}
 use Rattle.std.specs.List.{flat_map, prefix_len}
 use Rattle.base.specs.declared.refusal.Refusal.{Refusal}
@@ -29,10 +30,11 @@ goes_on b = nat_le 128 b
 abbrev pub value_of : List ℕ → ℕ
 value_of bs = number_from_digits 128 (map (λ b. b % 128) bs)
 
--- refusal and place, with a space between
+-- the text of a fault: refusal and place, with a space between
 abbrev pub fault_text : NumberFault → List ℕ
 fault_text e = refusal_text e.refusal ++ (codes " " ++ decimal e.place)
 
+-- the number at a place is not read, and why
 abbrev pub refuse : Refusal → ℕ → Result Decoded NumberFault
 refuse e place = Err (record { refusal = e; place = place })
 
@@ -40,8 +42,15 @@ refuse e place = Err (record { refusal = e; place = place })
 -- all else, even where the bytes end behind it; then an end before the last group; then five groups that exceed 2^32 - 1
 unfoldable pub read_groups : ℕ → List ℕ → Result Decoded NumberFault
 read_groups place bs =
-    if nat_le 5 (prefix_len goes_on bs) then refuse Wide place else (if prefix_len goes_on bs == length bs then refuse Short place else (if nat_lt (value_of (take (prefix_len goes_on bs + 1) bs)) number_limit then Ok (record { value = value_of (take (prefix_len goes_on bs + 1) bs); next = place + (prefix_len goes_on bs + 1) }) else refuse Wide place))
+    let lead = prefix_len goes_on bs in
+    let value = value_of (take (lead + 1) bs) in
+    if nat_le 5 lead then refuse Wide place
+    else if lead == length bs then refuse Short place
+    else if nat_lt value number_limit then Ok (record { value = value; next = place + (lead + 1) })
+    else refuse Wide place
 
 -- the number that begins at a place of the bytes. A first byte 80 (hex), an empty group, is refused first
 abbrev pub read_number : List ℕ → ℕ → Result Decoded NumberFault
-read_number bytes place = if nat_lt place (length bytes) && slice_index bytes place == 128 then refuse Padded place else (read_groups place (drop place bytes))
+read_number bytes place =
+    if nat_lt place (length bytes) && slice_index bytes place == 128 then refuse Padded place
+    else read_groups place (drop place bytes)

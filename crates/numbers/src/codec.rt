@@ -7,14 +7,16 @@ use base::Refusal;
 use std::error::Error;
 use std::fmt;
 
-// A number that was not read: why, and the place of its first byte.
+/// Why a number was not read, and where.
 #[derive(Clone, Copy, Debug, PartialEq, Eq)]
 pub struct NumberFault {
+    /// Why: reading gives short (1), wide (2) or padded (3).
     pub refusal: Refusal,
+    /// The place of the number's first byte, from 0.
     pub place: usize,
 }
 
-// Refusal and place, as in `3 padded 4`.
+/// The refusal and the place in decimal, as in `3 padded 4`.
 impl fmt::Display for NumberFault {
     ghost output = { λ e. Some (fault_text e) };
 
@@ -25,23 +27,24 @@ impl fmt::Display for NumberFault {
 
 impl Error for NumberFault {}
 
-// A number that was read, and the place behind its last byte.
+/// A number that was read.
 #[derive(Clone, Copy, Debug, PartialEq, Eq)]
 pub struct Decoded {
+    /// The number.
     pub value: u32,
+    /// The place behind its last byte, where the next number may begin.
     pub next: usize,
 }
 
-// How many bytes the number takes. No `From` leads from the logarithm's type to `usize`, hence `as`.
+/// How many bytes the number takes, 1 to 5.
 pub fn number_len(n: u32) -> usize
     ensures { result ≡ length (number_bytes n) }
 {
     n.max(1).ilog(128) as usize + 1
 }
 
-// Writes the number to the front of `out` and tells its length; where there is too little room, nothing is touched. Answer and bytes are
-// two facts, and each has a clause and a definition, here and in all that writes. A mask and `as` take
-// the low group, since nothing is to fail there. The places are a range: of what `iter_mut` lent, a proof would know the length alone.
+/// Writes the number at the front of `out` and answers how many bytes it takes, 1 to 5; the bytes behind stay. Refuses narrow (19) where `out` has
+/// fewer, and then leaves all of it.
 #[tactic(auto, using(crate::proofs::Groups::writes))]
 pub fn write_number(n: u32, out: &mut [u8]) -> Result<usize, Refusal>
     ensures answer { result ≡ len_if_room (number_bytes n) out.old }
@@ -60,15 +63,15 @@ pub fn write_number(n: u32, out: &mut [u8]) -> Result<usize, Refusal>
     Ok(len)
 }
 
-// Whether the bytes of the numbers are no more than the room.
+// Whether the numbers take no more bytes than there is room for.
 fn fit(numbers: &[u32], room: usize) -> bool
     ensures { result ≡ nat_le (length (numbers_bytes numbers.now)) room }
 {
     numbers.iter().copied().map(number_len).sum::<usize>() <= room
 }
 
-// Writes several numbers, one after another, as `write_number` does one. The place is kept beside: a closure that `try_fold` calls would
-// change the bytes that it captures, and nothing would be known of them from one call to the next.
+/// Writes the numbers at the front of `out`, one after another, and answers how many bytes they take together; the bytes behind stay. Refuses
+/// narrow (19) where `out` has fewer, and then leaves all of it: no number is written.
 #[tactic(auto, using(crate::proofs::SeveralWritten::lays))]
 pub fn write_numbers(numbers: &[u32], out: &mut [u8]) -> Result<usize, Refusal>
     ensures answer { result ≡ len_if_room (numbers_bytes numbers.now) out.old }
@@ -91,8 +94,7 @@ fn refuse(refusal: Refusal, place: usize) -> Result<Decoded, NumberFault>
     Err(NumberFault { refusal, place })
 }
 
-// The number that the groups from a place on make. The loop breaks with the number read, which is a rule of the project. Bytes and place
-// stay two parameters, here and below: a cursor that moves on would need a second clause, on what it leaves as it was.
+// The number that the groups from a place on make, and how it is refused. A fifth byte that goes on is too many, whatever stands behind it.
 fn read_groups(bytes: &[u8], at: usize) -> Result<Decoded, NumberFault>
     ensures { result ≡ read_groups at (drop at bytes.now) }
 {
@@ -119,7 +121,9 @@ fn read_groups(bytes: &[u8], at: usize) -> Result<Decoded, NumberFault>
     })
 }
 
-// The number that begins at a place of the bytes.
+/// The number that begins at place `at` of the bytes, from 0; what stands before it and behind it is not looked at. Refuses, at that place: padded
+/// (3) where its first byte is 80 (hex); wide (2) where its fifth byte has the top bit set; short (1) where the bytes end before its last group;
+/// wide (2) where it is 2^32 or more.
 pub fn read_number(bytes: &[u8], at: usize) -> Result<Decoded, NumberFault>
     ensures { result ≡ read_number bytes.now at }
 {

@@ -1,10 +1,10 @@
 // The theorems on numbers.
 ghost use Rattle.numbers.specs.NumberLaws.{NumberReadsBack, NumberReadsOnly, NumberHasLength};
 
-/// A number that is written reads back as itself, and no other bytes read as it; and how many bytes it takes.
+/// A number that is written reads back as itself, wherever it stands; no other bytes read as it; and it takes a byte at least, and below 128^k no
+/// more than k.
 pub fn numbers_laws()
     ensures back { NumberReadsBack }
     ensures only { NumberReadsOnly }
     ensures len { NumberHasLength }
-{
-}
+{}

@@ -1,4 +1,4 @@
-// Numbers below 2^32 as bytes, and the refusals of all layers.
+//! Numbers below 2^32 as bytes: writing and reading them, and how bytes are refused.
 #![tactic(auto)]
 
 mod codec;
