@@ -1,4 +1,4 @@
--- A mask's digits as a test on places (`bit`), and the mask that a test makes (`mask_of`). Assumes nothing.
+-- A mask's digits as a test on places (`bit`), and the mask that a test makes (`mask_of`).
 use Rattle.std.proofs.Common.{◌≡◌, ℕ, zero, suc, ◌+◌, ◌-◌, ◌/◌, ◌%◌, ◌^◌, ◌<◌, ◌≤◌, Bool, true, false, cond, not, ◌&&◌, ◌||◌, eqb, ltb, leb, sym, refl, ap, ◌∙◌, ap₂, suc-le-suc, lt_of_lt_of_le, div-lt_iff_lt-mul, one-mul, pow-suc, div-one, one-add, arith, pow_pos, pow_mono, shr-shr}
 use native.Mathlib.Nat.{div-eq_of_lt}
 use lib.Arith.{bin_ind, lt-one}

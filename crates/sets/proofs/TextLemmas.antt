@@ -1,4 +1,4 @@
--- A set written as text, box by box. Assumes nothing.
+-- A set written as text, box by box.
 use Rattle.std.proofs.Common.{◌≡◌, ℕ, ◌+◌, Bool, true, false, cond, List, ◌++◌, codes, decimal, ap, add-one, arith}
 use Rattle.std.proofs.Output.{has_written_append, has_written_of_eq, has_written_to_eq}
 use Rattle.std.specs.declared.fmt.Formatter.{Formatter}

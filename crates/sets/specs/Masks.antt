@@ -1,5 +1,6 @@
--- Masks as sets of numbers. Assumes nothing.
+-- Masks as sets of boxes. To be believed for every promise.
 use Rattle.std.specs.Prelude.{ℕ, zero, suc, ◌+◌, ◌/◌, ◌%◌, ◌^◌, Bool, if◌then◌else◌, ◌==◌}
+use Rattle.base.specs.Limits.{most_company}
 use Rattle.sets.specs.declared.set.BoxSet.{BoxSet}
 
 -- whether bit i of a mask is set
@@ -15,6 +16,6 @@ mask_of P (suc n) = mask_of P n + (if P n then 2 ^ n else 0)
 abbrev pub member : BoxSet → ℕ → Bool
 member s i = bit s.mask i
 
--- the set of the boxes that pass, of the 32 that a set has room for
+-- the set of the boxes that pass, of those that a set has room for
 abbrev pub set_of : (ℕ → Bool) → BoxSet
-set_of P = record { mask = mask_of P 32 }
+set_of P = record { mask = mask_of P most_company }

@@ -1,4 +1,4 @@
--- What every layer uses of sets. Assumes nothing.
+-- What masks mean as sets of boxes. To be believed for every promise.
 use Rattle.std.specs.Prelude.{◌≡◌, ℕ, ◌^◌, ◌<◌, ◌≤◌, Bool, false, ◌&&◌, count_ones, nat_lt}
 use Rattle.base.specs.Counts.{count}
 use Rattle.sets.specs.Masks.{bit, mask_of}
@@ -9,7 +9,9 @@ OnesAreMembers = (n mask : ℕ) → mask < 2 ^ n → count_ones mask ≡ count (
 
 -- a mask is determined by its members
 abbrev pub MaskIsDetermined : Type 0
-MaskIsDetermined = (n a b : ℕ) → a < 2 ^ n → b < 2 ^ n → ((i : ℕ) → i < n → bit a i ≡ bit b i) → a ≡ b
+MaskIsDetermined = (n a b : ℕ) → a < 2 ^ n → b < 2 ^ n
+    → ((i : ℕ) → i < n → bit a i ≡ bit b i)
+    → a ≡ b
 
 -- the mask made from a test has just the members that pass, below n
 abbrev pub MaskHasMembers : Type 0
@@ -17,4 +19,6 @@ MaskHasMembers = (P : ℕ → Bool) (n i : ℕ) → bit (mask_of P n) i ≡ (nat
 
 -- a mask is below 2^n exactly if it has no member at n or above
 abbrev pub MaskIsBelow : Type 0
-MaskIsBelow = (n mask : ℕ) → (mask < 2 ^ n → (i : ℕ) → n ≤ i → bit mask i ≡ false) × (((i : ℕ) → n ≤ i → bit mask i ≡ false) → mask < 2 ^ n)
+MaskIsBelow = (n mask : ℕ)
+    → (mask < 2 ^ n → (i : ℕ) → n ≤ i → bit mask i ≡ false)
+    × (((i : ℕ) → n ≤ i → bit mask i ≡ false) → mask < 2 ^ n)

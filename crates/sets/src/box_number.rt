@@ -1,5 +1,4 @@
-// The number of a box. Box numbers and round numbers cover nearly the same range; each has a type of its own, so that neither can stand in for
-// the other.
+// Boxes by number. Box numbers and round numbers are of types of their own, so that neither can stand in for the other.
 ghost use Rattle.std.specs.Prelude.{Some, decimal};
 
 use std::fmt;

@@ -1,9 +1,9 @@
-// The number of a round.
+// Rounds by number.
 ghost use Rattle.std.specs.Prelude.{Some, decimal};
 
 use std::fmt;
 
-/// The number of a round. Rounds are numbered from 1; 0 is the number of none.
+/// The number of a round. Rounds are numbered from 1, up to 2^32 − 1; 0 is the number of none.
 #[derive(Clone, Copy, PartialEq, Eq, PartialOrd, Ord, Debug)]
 pub struct RoundNumber(pub u32);
 

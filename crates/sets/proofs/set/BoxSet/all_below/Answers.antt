@@ -5,10 +5,10 @@ use Rattle.std.proofs.lemmas.Bool.Decides.{nat_tests}
 use Rattle.sets.proofs.BitLemmas.{bit-ones, set_is, places}
 use Rattle.sets.proofs.set.BoxSet.all_below.Goals as goal
 
-pub returns-then-n-lt-PLACES : goal.returns-then-n-lt-PLACES
-returns-then-n-lt-PLACES c =
+pub returns-then-n-lt-MOST_COMPANY : goal.returns-then-n-lt-MOST_COMPANY
+returns-then-n-lt-MOST_COMPANY c =
     let shifted = one_shl c.args.n 32 (omega arith) in
     set_is _ _ (search rules) (λ i l. grind (arith, nat_tests, places))
 
-pub returns-else-n-lt-PLACES : goal.returns-else-n-lt-PLACES
-returns-else-n-lt-PLACES c = set_is _ _ (search rules) (λ i l. grind (arith, nat_tests, bit-ones 32))
+pub returns-else-n-lt-MOST_COMPANY : goal.returns-else-n-lt-MOST_COMPANY
+returns-else-n-lt-MOST_COMPANY c = set_is _ _ (search rules) (λ i l. grind (arith, nat_tests, bit-ones 32))

@@ -5,8 +5,8 @@ use Rattle.base.proofs.CountLemmas.{not-any}
 use Rattle.sets.proofs.BitLemmas.{above_is}
 use Rattle.sets.proofs.set.BoxSet.is_below.Goals as goal
 
-pub returns-then-n-ge-PLACES : goal.returns-then-n-ge-PLACES
-returns-then-n-ge-PLACES c = not-any _ 32 _ (λ t i l. grind (arith, nat_tests)) (λ f. grind (arith, nat_tests))
+pub returns-then-n-ge-MOST_COMPANY : goal.returns-then-n-ge-MOST_COMPANY
+returns-then-n-ge-MOST_COMPANY c = not-any _ 32 _ (λ t i l. grind (arith, nat_tests)) (λ f. grind (arith, nat_tests))
 
-pub returns-else-n-ge-PLACES : goal.returns-else-n-ge-PLACES
-returns-else-n-ge-PLACES c = search (rules, above_is 32)
+pub returns-else-n-ge-MOST_COMPANY : goal.returns-else-n-ge-MOST_COMPANY
+returns-else-n-ge-MOST_COMPANY c = search (rules, above_is 32)

@@ -5,10 +5,10 @@ use Rattle.std.proofs.lemmas.Bool.Decides.{nat_tests}
 use Rattle.sets.proofs.BitLemmas.{set_is, places}
 use Rattle.sets.proofs.set.BoxSet.only.Goals as goal
 
-pub returns-then-q-lt-PLACES : goal.returns-then-q-lt-PLACES
-returns-then-q-lt-PLACES c =
+pub returns-then-q-lt-MOST_COMPANY : goal.returns-then-q-lt-MOST_COMPANY
+returns-then-q-lt-MOST_COMPANY c =
     let shifted = one_shl c.args.q.0 32 (omega arith) in
     set_is _ _ (search rules) (λ i l. grind (arith, nat_tests, places))
 
-pub returns-else-q-lt-PLACES : goal.returns-else-q-lt-PLACES
-returns-else-q-lt-PLACES c = set_is _ _ (search rules) (λ i l. grind (arith, nat_tests, places))
+pub returns-else-q-lt-MOST_COMPANY : goal.returns-else-q-lt-MOST_COMPANY
+returns-else-q-lt-MOST_COMPANY c = set_is _ _ (search rules) (λ i l. grind (arith, nat_tests, places))
