@@ -1,4 +1,4 @@
--- The foremost of some values, by the laws of an order. Assumes nothing.
+-- The foremost of some values, by the laws of an order.
 use Rattle.std.proofs.Common.{◌≡◌, ℕ, zero, suc, ◌<◌, Bool, true, false, cond, not, ◌⊎◌, Some, None, Option, sym, refl, ap, ◌∙◌, ⊎_elim, not-suc-le-zero, below_more, arith, MatchOption}
 use Rattle.std.proofs.lemmas.Option.{MatchOption-at_some}
 use Rattle.std.proofs.lemmas.Bool.{and_parts, both_ways}

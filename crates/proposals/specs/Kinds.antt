@@ -3,7 +3,7 @@ use Rattle.std.specs.Prelude.{◌≡◌, ℕ, ◌<◌, ◌≤◌, Bool, true, �
 use Rattle.std.specs.List.{AllByRecursion}
 use Rattle.base.specs.Limits.{image_limit}
 
--- how many numbers an image has; the image of a proposal; the proposal that has an image, if one has; and that of two proposals the first
+-- how many numbers an image has; the image of a proposal; the proposal that has an image, if there is one; and whether of two proposals the first
 -- may go first
 pub record Kind (V : Type 0) : Type 0 where
   pub size : ℕ

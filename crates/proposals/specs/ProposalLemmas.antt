@@ -1,5 +1,4 @@
--- Proposals with equal numbers are equal, since their ghost fields have one proof each; and what follows for the two kinds.
--- Assumes nothing.
+-- Pieces and calls with equal numbers are equal, since their ghost fields have one proof each; so both are kinds. For proofs only.
 use Rattle.std.specs.Prelude.{◌≡◌, ◌≤◌, true, Some, refl}
 use Rattle.std.proofs.Common.{ap, ◌∙◌, arith, rules}
 use Rattle.std.proofs.lemmas.Bool.{leb-true}

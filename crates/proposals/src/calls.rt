@@ -16,6 +16,7 @@ const LEAST_RANK: u8 = 1;
 const MOST_RANK: u8 = 9;
 
 impl Call {
+    /// The call with this rank for this piece. Refuses image (9) if the rank is not 1 to 9.
     pub fn new(rank: u8, piece: Piece) -> Result<Call, Refusal>
         ensures { result ≡ ok_or (call_at rank (Some piece)) Image }
     {
@@ -25,12 +26,14 @@ impl Call {
         Ok(Call { rank, piece })
     }
 
+    /// The rank, 1 to 9.
     pub fn rank(self) -> u8
         ensures { result ≡ self.rank }
     {
         self.rank
     }
 
+    /// The piece that is called for.
     pub fn piece(self) -> Piece
         ensures { result ≡ self.piece }
     {
@@ -38,6 +41,7 @@ impl Call {
     }
 }
 
+/// The image is the rank and then the image of the piece; the higher rank goes first, and of equal ranks the piece that does.
 impl Proposal for Call {
     const SIZE: usize = 2;
 

@@ -1,4 +1,4 @@
-//! Proposals: what one is to the layers above, and the two kinds of the product.
+//! What boxes propose: what a proposal is to the layers above, and two kinds, pieces and calls.
 #![tactic(auto)]
 
 mod calls;

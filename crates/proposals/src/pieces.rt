@@ -14,6 +14,7 @@ use std::fmt;
 const MOST: u16 = 16383;
 
 impl Piece {
+    /// The piece with this number. Refuses image (9) if the number is above 16,383.
     pub fn new(number: u16) -> Result<Piece, Refusal>
         ensures { result ≡ ok_or (piece_at number) Image }
     {
@@ -23,6 +24,7 @@ impl Piece {
         Ok(Piece { number })
     }
 
+    /// The number, 0 to 16,383.
     pub fn number(self) -> u16
         ensures { result ≡ self.number }
     {
@@ -30,7 +32,7 @@ impl Piece {
     }
 }
 
-// Its number.
+/// The number in decimal.
 impl fmt::Display for Piece {
     ghost output = { λ p. Some (decimal p.number) };
 
@@ -39,6 +41,7 @@ impl fmt::Display for Piece {
     }
 }
 
+/// The image is the number; the smaller number goes first.
 impl Proposal for Piece {
     const SIZE: usize = 1;
 
