@@ -1,4 +1,4 @@
--- A frame that is written reads back, and nothing else reads so. Assumes nothing.
+-- A frame that is written reads back, and nothing else reads so.
 use Rattle.std.proofs.Common.{◌≡◌, ℕ, zero, suc, ◌+◌, ◌*◌, ◌<◌, ◌≤◌, Bool, true, false, cond, ltb, List, [], ◌∷◌, ◌++◌, length, drop, Some, None, Ok, Err, Option, Result, sym, refl, ap, ◌∙◌, append_assoc, append-nil, arith, length-append}
 use Rattle.std.specs.List.{AllByRecursion}
 use Rattle.std.proofs.lemmas.List.{drop_all, drop_at, drop-drop}
@@ -16,7 +16,7 @@ use Rattle.frames.specs.declared.fault.FrameFault.{FrameFault}
 use Rattle.frames.specs.declared.fault.FrameFault.TheVariants.{Number, Image, Surplus}
 use Rattle.frames.specs.declared.codec.Head.{Head}
 use Rattle.frames.specs.declared.frame.Frame.{Frame}
-use Rattle.base.specs.Results.{and_then}
+use Rattle.base.specs.Results.{and_then, ◌>>=◌, map_fault}
 use Rattle.frames.specs.FrameFaults.{in_field, read_field}
 use Rattle.frames.specs.Frames.{frame_bytes, read_image, read_head, proposal_or_fault, read_proposal, read_frame}
 use Rattle.frames.specs.FrameLaws.{HeadFits, FrameReadsBack, FrameReadsOnly, FrameRefusesNumber, FrameRefusesImage, FrameRefusesSurplus, FrameHasLength}
@@ -81,17 +81,24 @@ pub next_inv : {X Y D E : Type 0} (up : D → E) (r : Result X D) (go : X → Re
 next_inv up (Ok x) go y e = (x, refl, e)
 next_inv up (Err d) go y e = absurd cc
 
+-- the same where a fault is mapped first
+mapped_inv : {X Y D E : Type 0} (up : D → E) (r : Result X D) (go : X → Result Y E) (y : Y) → (map_fault up r >>= go) ≡ Ok y → (x : X) × (r ≡ Ok x) × (go x ≡ Ok y)
+mapped_inv up (Ok x) go y e = (x, refl, e)
+mapped_inv up (Err d) go y e = absurd cc
+
+unmapped : {X D E : Type 0} (up : D → E) (r : Result X D) (x : X) → map_fault up r ≡ Ok x → r ≡ Ok x
+unmapped up (Ok x) y e = cc
+unmapped up (Err d) y e = absurd cc
+
 field_only : (bytes : List ℕ) (place : ℕ) (f : Field) (d : Decoded) → AllByRecursion (λ b. b < 256) bytes → read_field f bytes place ≡ Ok d → drop place bytes ≡ number_bytes d.value ++ drop d.next bytes
 field_only bytes place f d all e =
-    let p = next_inv (in_field f) (read_number bytes place) (λ u. Ok u) d e in
-    let same : p.0 ≡ d = let q = p.2 in cc in
-    (number_only bytes place d all (p.1 ∙ ap Ok same)).2
+    (number_only bytes place d all (unmapped (in_field f) (read_number bytes place) d e)).2
 
 image_only : (bytes : List ℕ) (size place : ℕ) (p : List ℕ × ℕ) → AllByRecursion (λ b. b < 256) bytes → read_image bytes size place ≡ Ok p → drop place bytes ≡ numbers_bytes p.0 ++ drop p.1 bytes
 unfolding read_image
 image_only bytes zero place p all e = let n = written_all-nil in cc
 image_only bytes (suc size) place p all e =
-    let q = next_inv Number (read_field field.Image bytes place) _ p e in
+    let q = mapped_inv Number (read_field field.Image bytes place) _ p e in
     let t = next_inv (λ (d : FrameFault). d) (read_image bytes size q.0.next) _ p q.2 in
     let same : (q.0.value ∷ t.0.0, t.0.1) ≡ p = let z = t.2 in cc in
     let here = field_only bytes place field.Image q.0 all q.1 in
@@ -102,9 +109,9 @@ head_only : (bytes : List ℕ) (h : Head) → AllByRecursion (λ b. b < 256) byt
     → bytes ≡ number_bytes h.round.0 ++ (number_bytes h.sender.0 ++ (number_bytes h.missing.mask ++ drop h.next bytes))
 unfolding read_head
 head_only bytes h all e =
-    let p = next_inv Number (read_field field.Round bytes 0) _ h e in
-    let q = next_inv Number (read_field field.Sender bytes p.0.next) _ h p.2 in
-    let r = next_inv Number (read_field field.Set bytes q.0.next) _ h q.2 in
+    let p = mapped_inv Number (read_field field.Round bytes 0) _ h e in
+    let q = mapped_inv Number (read_field field.Sender bytes p.0.next) _ h p.2 in
+    let r = mapped_inv Number (read_field field.Set bytes q.0.next) _ h q.2 in
     let one = field_only bytes 0 field.Round p.0 all p.1 in
     let two = field_only bytes p.0.next field.Sender q.0 all q.1 in
     let three = field_only bytes q.0.next field.Set r.0 all r.1 in

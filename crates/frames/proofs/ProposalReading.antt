@@ -1,4 +1,4 @@
--- Steps of reading a proposal. Assumes nothing.
+-- Steps of reading a proposal.
 use Rattle.std.proofs.Common.{◌≡◌, ℕ, suc, ◌+◌, ◌-◌, ◌<◌, ◌≤◌, List, [], ◌∷◌, ◌++◌, Ok, Err, Result, refl, append_assoc, append-nil, arith}
 use Rattle.numbers.specs.declared.codec.Decoded.{Decoded}
 use Rattle.frames.specs.declared.fault.Field.TheVariants as field

@@ -1,4 +1,4 @@
--- Bytes as text. Assumes nothing.
+-- Bytes as text. To be believed for what is shown.
 use Rattle.std.specs.Prelude.{ℕ, ◌-◌, ◌^◌, false, List, [], ◌++◌, codes}
 use Rattle.std.specs.Fmt.{digits, padded_integral, format_spec}
 use Rattle.std.specs.List.{flat_map}
@@ -11,5 +11,6 @@ two_digits b = padded_integral (format_spec 32 0 4 2 (2 ^ 64 - 1)) false [] (dig
 abbrev pub spaced_byte : ℕ → List ℕ
 spaced_byte b = codes " " ++ two_digits b
 
+-- the same of each byte
 abbrev pub hex_text : List ℕ → List ℕ
 hex_text bs = flat_map spaced_byte bs

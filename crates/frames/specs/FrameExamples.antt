@@ -1,4 +1,4 @@
--- Worked examples, with bytes in hexadecimal. Assumes nothing.
+-- Worked examples of numbers and of a frame, with bytes in hexadecimal. To be believed for these examples alone.
 use Rattle.std.specs.Prelude.{◌≡◌, [], ◌∷◌, Ok, nat_eq}
 use Rattle.std.proofs.Common.{lit≤}
 use Rattle.base.specs.declared.refusal.Refusal.TheVariants.{Wide, Padded}
@@ -15,4 +15,9 @@ Examples =
     × (read_number (0x90 ∷ 0x80 ∷ 0x80 ∷ 0x80 ∷ 0x00 ∷ []) 0 ≡ refuse Wide 0)
     × (read_number (0x80 ∷ 0x05 ∷ []) 0 ≡ refuse Padded 0)
     × (read_frame piece_kind (0x02 ∷ 0x00 ∷ 0x04 ∷ 0x14 ∷ [])
-    ≡ Ok (record { round = record { 0 = 2 }; sender = record { 0 = 0 }; missing = set_of (λ i. nat_eq i 2); estimate = record { number = 20; most = lit≤ tt } }))
+    ≡ Ok (record {
+      round = record { 0 = 2 };
+      sender = record { 0 = 0 };
+      missing = set_of (λ i. nat_eq i 2);
+      estimate = record { number = 20; most = lit≤ tt };
+    }))

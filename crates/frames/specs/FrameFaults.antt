@@ -1,5 +1,5 @@
--- The faults of a frame: refusal, field and place of each, and how that of a number comes up inside. Assumes nothing.
-use Rattle.std.specs.Prelude.{ℕ, zero, suc, List, ◌++◌, Ok, codes, decimal, Result}
+-- The faults of a frame: refusal, field and place of each, and how that of a number comes up inside. To be believed for what is refused.
+use Rattle.std.specs.Prelude.{ℕ, zero, suc, List, ◌++◌, codes, decimal, Result}
 use Rattle.numbers.specs.declared.codec.Decoded.{Decoded}
 use Rattle.numbers.specs.declared.codec.NumberFault.{NumberFault}
 use Rattle.base.specs.declared.refusal.Refusal.{Refusal}
@@ -11,8 +11,9 @@ use Rattle.frames.specs.declared.fault.Field.TheVariants as field
 use Rattle.frames.specs.declared.fault.FieldFault.{FieldFault}
 use Rattle.frames.specs.declared.fault.FrameFault.{FrameFault}
 use Rattle.frames.specs.declared.fault.FrameFault.TheVariants.{Number, Image, Surplus}
-use Rattle.base.specs.Results.{and_then}
+use Rattle.base.specs.Results.{map_fault}
 
+-- the word of a field
 abbrev pub field_word : Field → List ℕ
 field_word field.Round = codes "round"
 field_word field.Sender = codes "sender"
@@ -27,24 +28,30 @@ field_at (suc zero) = field.Sender
 field_at (suc (suc zero)) = field.Set
 field_at (suc (suc (suc k))) = field.Image
 
+-- why the frame was refused
 abbrev pub refusal_of : FrameFault → Refusal
 refusal_of (Number f) = f.fault.refusal
 refusal_of (Image place) = refusal.Image
 refusal_of (Surplus place) = refusal.Surplus
 
+-- the field that is at fault
 abbrev pub field_of : FrameFault → Field
 field_of (Number f) = f.field
 field_of (Image place) = field.Image
 field_of (Surplus place) = field.End
 
+-- and the place, from 0, where that begins
 abbrev pub place_of : FrameFault → ℕ
 place_of (Number f) = f.fault.place
 place_of (Image place) = place
 place_of (Surplus place) = place
 
--- refusal, field and place, with a space between
+-- the text of a fault: refusal, field and place, with a space between two
 abbrev pub fault_text : FrameFault → List ℕ
-fault_text e = refusal_text (refusal_of e) ++ (codes " " ++ (field_word (field_of e) ++ (codes " " ++ decimal (place_of e))))
+fault_text e =
+    refusal_text (refusal_of e)
+    ++ (codes " " ++ (field_word (field_of e)
+    ++ (codes " " ++ decimal (place_of e))))
 
 -- the fault of a number in a field
 abbrev pub in_field : Field → NumberFault → FieldFault
@@ -52,4 +59,4 @@ in_field f e = record { field = f; fault = e }
 
 -- the number of a field, at a place
 abbrev pub read_field : Field → List ℕ → ℕ → Result Decoded FieldFault
-read_field f bytes place = and_then (in_field f) (read_number bytes place) (λ d. Ok d)
+read_field f bytes place = map_fault (in_field f) (read_number bytes place)

@@ -3,3 +3,17 @@ pub mod FrameExamples
 pub mod FrameFaults
 pub mod FrameLaws
 pub mod Frames
+pub use Rattle.base.specs.Buffers
+pub use Rattle.base.specs.Limits
+pub use Rattle.base.specs.Refusals
+pub use Rattle.base.specs.Results
+pub use Rattle.base.specs.declared.refusal.Refusal
+pub use Rattle.numbers.specs.Numbers
+pub use Rattle.numbers.specs.declared.codec.Decoded
+pub use Rattle.numbers.specs.declared.codec.NumberFault
+pub use Rattle.proposals.specs.Kinds
+pub use Rattle.proposals.specs.Pieces
+pub use Rattle.sets.specs.Masks
+pub use Rattle.sets.specs.declared.box_number.BoxNumber
+pub use Rattle.sets.specs.declared.round_number.RoundNumber
+pub use Rattle.sets.specs.declared.set.BoxSet

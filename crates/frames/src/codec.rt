@@ -1,4 +1,4 @@
-// A frame is round, sender, missing set and the image of the estimate, in this order, for any kind of proposal.
+// Frames as bytes: round, sender, missing set and the image of the estimate, as numbers in this order, for any kind of proposal.
 ghost use Rattle.std.specs.Prelude.{◌≡◌};
 ghost use Rattle.base.specs.Buffers.{with_front, len_if_room};
 ghost use Rattle.frames.specs.FrameFaults.{read_field};
@@ -7,9 +7,9 @@ ghost use Rattle.frames.specs.Frames.{frame_numbers, frame_bytes, read_head, rea
 use super::fault::{Field, FieldFault, FrameFault};
 use super::frame::Frame;
 use arrayvec::ArrayVec;
-use proposals::Proposal;
 use base::Refusal;
 use numbers::{Decoded, read_number, write_numbers};
+use proposals::Proposal;
 use sets::{BoxNumber, BoxSet, RoundNumber};
 
 // The numbers of a frame: three, and those of the image, at most four.
@@ -26,7 +26,8 @@ fn frame_numbers<K: Proposal>(frame: Frame<K>) -> ArrayVec<u32, 7>
     numbers
 }
 
-// Writes the frame to the front of `out` and tells its length; where there is too little room, nothing is touched.
+/// Writes the frame at the front of `out` and answers how many bytes it takes; the bytes behind stay. Refuses narrow (19) where `out` has fewer, and
+/// then leaves all of it. `LONGEST_FRAME` bytes are room for a frame of a company.
 pub fn write_frame<K: Proposal>(frame: Frame<K>, out: &mut [u8]) -> Result<usize, Refusal>
     ensures answer { result ≡ len_if_room (frame_bytes K.kind frame) out.old }
     ensures bytes { out.new ≡ with_front (frame_bytes K.kind frame) out.old }
@@ -34,15 +35,14 @@ pub fn write_frame<K: Proposal>(frame: Frame<K>, out: &mut [u8]) -> Result<usize
     write_numbers(&frame_numbers(frame), out)
 }
 
-// A number of the frame, with its field told where it is at fault. Bytes and place stay two parameters: a cursor that moves on would
-// need a second clause, on what it leaves as it was.
+// The number of a field, which begins at a place; where it is not read, the fault tells the field.
 fn read_field(bytes: &[u8], at: usize, field: Field) -> Result<Decoded, FieldFault>
     ensures { result ≡ read_field field bytes.now at }
 {
     read_number(bytes, at).map_err(|fault| FieldFault { field, fault })
 }
 
-// The three numbers in front of the image, and the place behind them.
+// The numbers in front of the image, and the place behind them.
 #[derive(Clone, Copy, Debug, PartialEq, Eq)]
 struct Head {
     round: RoundNumber,
@@ -66,7 +66,9 @@ fn read_head(bytes: &[u8]) -> Result<Head, FrameFault>
     })
 }
 
-// The proposal whose image begins at a place, and the place behind it; the two go beside each other as in `read_field`.
+/// The proposal whose image begins at place `at` of the bytes, from 0, and the place behind the image; what stands before and behind is not looked
+/// at. Refuses, in field image: a number of the image that is not read, short (1), wide (2) or padded (3), at its place; image (9) at `at` where no
+/// proposal has these numbers.
 #[tactic(auto, using(crate::proofs::ProposalReading::reading))]
 pub fn read_proposal<K: Proposal>(bytes: &[u8], at: usize) -> Result<(K, usize), FrameFault>
     ensures { result ≡ read_proposal K.kind bytes.now at }
@@ -82,7 +84,9 @@ pub fn read_proposal<K: Proposal>(bytes: &[u8], at: usize) -> Result<(K, usize),
     Ok((proposal, next))
 }
 
-// The frame that the bytes hold, all of them.
+/// The frame that the bytes are, all of them. Each field is judged when it is reached, and the first fault refuses: a number that is not read, short
+/// (1), wide (2) or padded (3), at its place; image (9) at the place of the image, where no proposal has it; surplus (4) at the first byte that
+/// follows the image. Sender and missing set are not judged: a frame does not know the company.
 pub fn read_frame<K: Proposal>(bytes: &[u8]) -> Result<Frame<K>, FrameFault>
     ensures { result ≡ read_frame K.kind bytes.now }
 {

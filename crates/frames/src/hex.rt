@@ -1,13 +1,14 @@
-// Bytes as text, for service.
+// Bytes as text.
 ghost use Rattle.std.specs.Prelude.{Some};
 ghost use Rattle.frames.specs.ByteTexts.{hex_text};
 
 use std::fmt;
 
-// Each byte is written as a space and two hexadecimal digits.
+/// Bytes to be shown in hexadecimal.
 #[derive(Clone, Copy, Debug, PartialEq, Eq)]
 pub struct HexBytes<'a>(pub &'a [u8]);
 
+/// A space and two hexadecimal digits for each byte, as in ` 02 00 04 14`.
 impl fmt::Display for HexBytes<'_> {
     ghost output = { λ x. Some (hex_text x.0.now) };
 

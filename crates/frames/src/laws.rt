@@ -1,4 +1,4 @@
-// The theorems on frames.
+// The theorems on frames, for every kind of proposal.
 ghost use Rattle.std.specs.Prelude.{◌≡◌};
 ghost use Rattle.frames.specs.FrameLaws.{FrameReadsBack, FrameReadsOnly, FrameRefusesNumber, FrameRefusesImage, FrameRefusesSurplus, FrameHasLength};
 ghost use Rattle.frames.specs.Frames.{longest_frame};
@@ -7,8 +7,9 @@ ghost use Rattle.frames.specs.FrameExamples.{Examples};
 use super::frame::LONGEST_FRAME;
 use proposals::Proposal;
 
-/// A frame that is written reads back as itself, and no other bytes read as that frame; how other bytes are refused; how long a
-/// frame can be, and that `LONGEST_FRAME` is the room for one of a company.
+/// A frame that is written reads back as itself, and no other bytes read as that frame. Other bytes are refused: at the first number that is not read,
+/// at an image that no proposal has, at the first byte that follows a frame. How many bytes a frame takes; and `LONGEST_FRAME` is the room for one of
+/// a company.
 pub fn frames_laws<K: Proposal>()
     ensures room { LONGEST_FRAME ≡ longest_frame }
     ensures back { FrameReadsBack K.kind }
@@ -17,11 +18,9 @@ pub fn frames_laws<K: Proposal>()
     ensures image { FrameRefusesImage K.kind }
     ensures surplus { FrameRefusesSurplus K.kind }
     ensures len { FrameHasLength K.kind }
-{
-}
+{}
 
-/// Worked examples of numbers and of a frame, as one fact.
+/// Worked examples of numbers and of a frame.
 pub fn examples_laws()
     ensures examples { Examples }
-{
-}
+{}

@@ -1,4 +1,4 @@
-// Frames: what a box sends in a round, as bytes.
+//! Frames, which boxes send each other, as bytes: writing and reading them, and how bytes are refused.
 #![tactic(auto)]
 
 mod codec;
