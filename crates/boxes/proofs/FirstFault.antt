@@ -1,4 +1,4 @@
--- Calls that are refused for the first of some faults. Assumes nothing.
+-- Calls that are refused for the first of some faults.
 use Rattle.std.proofs.Common.{◌≡◌, ℕ, Bool, true, false, ◌||◌, List, [], ◌∷◌, Ok, Err, Result, sym, refl, ap, arith}
 use Rattle.base.specs.declared.refusal.Refusal.{Refusal}
 use Rattle.base.specs.Refusals.{unless}

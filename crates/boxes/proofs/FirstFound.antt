@@ -1,4 +1,4 @@
--- The first of a list that passes a test. Assumes nothing.
+-- The first of a list that passes a test.
 use Rattle.std.proofs.Common.{◌≡◌, Bool, true, false, cond, List, [], ◌∷◌, Some, None, Option, refl, ap, arith}
 use Rattle.std.specs.List.{All, Contains, find}
 use Rattle.std.proofs.lemmas.Bool.{both_ways}

@@ -1,4 +1,4 @@
--- The frame that a box sends. Assumes nothing.
+-- The frame that a box sends.
 use Rattle.std.proofs.Common.{◌<◌, ◌≤◌, length, lt_of_lt_of_le, arith, pow_mono}
 use Rattle.frames.specs.Frames.{frame_bytes, longest_frame}
 use Rattle.frames.specs.FrameLaws.{HeadFits, FrameHasLength}

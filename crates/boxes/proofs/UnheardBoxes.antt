@@ -1,4 +1,4 @@
--- The boxes that a listening box has not heard. Assumes nothing.
+-- The boxes that a listening box has not heard.
 use Rattle.std.proofs.Common.{◌≡◌, ◌^◌, ◌<◌, false, not, ◌&&◌, ltb, arith}
 use Rattle.std.proofs.lemmas.Bool.Decides.{nat_tests}
 use Rattle.sets.specs.declared.set.BoxSet.{BoxSet}

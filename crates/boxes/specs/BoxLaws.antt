@@ -1,10 +1,11 @@
--- What holds of every box, for every kind of proposal. Assumes nothing.
+-- What holds of every box, for every kind of proposal. To be believed for boxes.
 use Rattle.std.specs.Prelude.{◌≡◌, ℕ, ◌+◌, ◌^◌, ◌<◌, ◌≤◌, ◌==◌, ◌||◌, ⊤, Ok, Bool, true, false, List, [], ◌∷◌, ◌++◌, length, map, is_some, Some, All, Contains}
 use Rattle.std.specs.Result.{result_map_both}
 use Rattle.base.specs.declared.refusal.Refusal.TheVariants as refusal
 use Rattle.base.specs.Refusals.{unless}
 use Rattle.sets.specs.Companies.{is_company}
 use Rattle.base.specs.Counts.{count}
+use Rattle.base.specs.Limits.{most_company}
 use Rattle.sets.specs.Masks.{member, set_of}
 use Rattle.frames.specs.declared.frame.Frame.{Frame}
 use Rattle.base.specs.Results.{map_fault}
@@ -26,7 +27,7 @@ BoxKeeps K = (b : Resting K)
     × (b.held.number.0 < b.held.n)
     × (b.held.missing.mask < 2 ^ b.held.n)
     × (member b.held.missing b.held.number.0 ≡ false)
-    × (count (member b.held.missing) 32 ≤ b.held.t)
+    × (count (member b.held.missing) most_company ≤ b.held.t)
     × ((next_round b.held).0 ≤ b.held.horizon.0)
     × (b.held.horizon.0 ≤ b.held.t + 1)
 
@@ -49,11 +50,13 @@ is_ringing (rings round proposal) = true
 -- a box that closes a round rings in it just if that round was its best horizon already, or it knows as many boxes missing as may fall
 abbrev pub RingsWhen : Type 0 → Type 0
 RingsWhen K = (b : Resting K) (m : Notes K) (o : Outcome K) → on_close b.held m ≡ Ok o
-    → is_ringing o ≡ (b.held.horizon.0 == (next_round b.held).0 || count (member m.known) 32 == b.held.t)
+    → is_ringing o ≡ (b.held.horizon.0 == (next_round b.held).0 || count (member m.known) most_company == b.held.t)
 
 -- what a box sends has 1 to 24 bytes
 abbrev pub FrameIsShort : {K : Type 0} → Kind K → Type 0
-FrameIsShort {K} kind = (b : Resting K) → (1 ≤ length (frame_bytes kind (frame_of b.held))) × (length (frame_bytes kind (frame_of b.held)) ≤ longest_frame)
+FrameIsShort {K} kind = (b : Resting K)
+    → (1 ≤ length (frame_bytes kind (frame_of b.held)))
+    × (length (frame_bytes kind (frame_of b.held)) ≤ longest_frame)
 
 -- frames that were sent are the frames among what is told
 abbrev pub SentAreRead : {K : Type 0} → Kind K → Type 0
@@ -85,7 +88,12 @@ module _ {K : Type 0} (kind : Kind K) where
       → (Contains (frames_in kind told) f → Contains (frames_in kind again) f)
       × (Contains (frames_in kind again) f → Contains (frames_in kind told) f))
       → ((f g : Frame K)
-      → Contains (frames_in kind told) f → Contains (frames_in kind told) g → admits b.held f ≡ true → admits b.held g ≡ true → f.sender.0 ≡ g.sender.0 → f ≡ g)
+      → Contains (frames_in kind told) f
+      → Contains (frames_in kind told) g
+      → admits b.held f ≡ true
+      → admits b.held g ≡ true
+      → f.sender.0 ≡ g.sender.0
+      → f ≡ g)
       → notes_after kind b.held (open_notes b.held) told ≡ notes_after kind b.held (open_notes b.held) again
 
   -- what a box composes, another of its company in the same round notes as that frame, unless it has heard the sender, misses it

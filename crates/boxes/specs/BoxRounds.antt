@@ -1,4 +1,4 @@
--- A round of a box: what it notes as it opens it, which frames it hears, and what it closes to. Assumes nothing.
+-- A round of a box: what it notes as it opens it, which frames it hears, and what it closes to. To be believed for boxes.
 use Rattle.std.specs.Prelude.{ℕ, ◌+◌, ◌-◌, min, ⊤, Bool, if◌then◌else◌, not, ◌&&◌, ◌||◌, List, [], ◌∷◌, Some, Ok, Result, ◌==◌, nat_eq, nat_le, nat_lt}
 use Rattle.base.specs.declared.refusal.Refusal.{Refusal}
 use Rattle.base.specs.declared.refusal.Refusal.TheVariants as refusal
@@ -6,6 +6,7 @@ use Rattle.base.specs.Refusals.{unless}
 use Rattle.sets.specs.declared.round_number.RoundNumber.{RoundNumber}
 use Rattle.sets.specs.declared.set.BoxSet.{BoxSet}
 use Rattle.base.specs.Counts.{any, count}
+use Rattle.base.specs.Limits.{most_company}
 use Rattle.sets.specs.Masks.{member, set_of}
 use Rattle.proposals.specs.Orders.{preferred}
 use Rattle.frames.specs.declared.fault.FrameFault.{FrameFault}
@@ -45,7 +46,10 @@ open_notes b = record { heard = set_of (λ i. nat_eq i b.number.0); known = b.mi
 
 -- that the frame's set has a box that is none of the company's, or the sender or the hearer
 unfoldable pub bad_set : {K : Type 0} → Held K → Frame K → Bool
-bad_set b f = any (λ i. member f.missing i && nat_le b.n i) 32 || member f.missing f.sender.0 || member f.missing b.number.0
+bad_set b f =
+    any (λ i. member f.missing i && nat_le b.n i) most_company
+    || member f.missing f.sender.0
+    || member f.missing b.number.0
 
 -- the faults that a frame can have for the box, in the order in which they count
 abbrev pub faults : {K : Type 0} → Held K → Notes K → Frame K → List (Bool × Refusal)
@@ -84,13 +88,14 @@ pub data Outcome (K : Type 0) : Type 0 where
   rests : Held K → Outcome K
   rings : RoundNumber → K → Outcome K
 
+-- what a closed box shows of that
 abbrev pub outcome : {K : Type 0} → Closed K → Outcome K
 outcome (Rests b) = rests b.held
 outcome (Rings round proposal) = rings round proposal
 
 -- a box's best horizon after its next round, where it knows the boxes of the set F missing
 abbrev pub best_horizon : {K : Type 0} → Held K → (F : BoxSet) → ℕ
-best_horizon b F = min b.horizon.0 (b.closed + 1 + b.t - count (member F) 32)
+best_horizon b F = min b.horizon.0 (b.closed + 1 + b.t - count (member F) most_company)
 
 -- its values after that round, where it did not hear the boxes of the set N and holds an estimate
 abbrev pub held_next : {K : Type 0} → Held K → (N F : BoxSet) → K → Held K
@@ -106,18 +111,21 @@ held_next b N F estimate = record {
 
 -- what becomes of it in that round: it rings on the estimate if the round is its best horizon, and rests if not
 abbrev pub outcome_with : {K : Type 0} → Held K → (N F : BoxSet) → K → Outcome K
-outcome_with b N F estimate = if best_horizon b F == (next_round b).0 then rings (next_round b) estimate else (rests (held_next b N F estimate))
+outcome_with b N F estimate =
+    if best_horizon b F == (next_round b).0 then rings (next_round b) estimate
+    else rests (held_next b N F estimate)
 
 -- how it closes that round: the tally is refused where N has more than t boxes, or F one that is not in N
 unfoldable pub close_with : {K : Type 0} → Held K → (N F : BoxSet) → K → Result (Outcome K) Refusal
 close_with b N F estimate =
     unless
-    ((nat_lt b.t (count (member N) 32) || any (λ i. member F i && not (member N i)) 32, refusal.Tally) ∷ [])
+    ((nat_lt b.t (count (member N) most_company) || any (λ i. member F i && not (member N i)) most_company, refusal.Tally) ∷ [])
     (outcome_with b N F estimate)
 
 -- the boxes of the company that were not heard
 abbrev pub unheard_boxes : {K : Type 0} → Held K → Notes K → BoxSet
 unheard_boxes b m = set_of (λ i. nat_lt i b.n && not (member m.heard i))
 
+-- what becomes of a listening box that closes its round, or why it is refused
 unfoldable pub on_close : {K : Type 0} → Held K → Notes K → Result (Outcome K) BoxFault
 on_close b m = map_fault (box_refusal b) (close_with b (unheard_boxes b m) m.known m.foremost)

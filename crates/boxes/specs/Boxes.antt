@@ -1,4 +1,4 @@
--- A box at rest: which one is made, and what it sends. Assumes nothing.
+-- A box at rest: which one is made, and what it sends. To be believed for boxes.
 use Rattle.std.specs.Prelude.{ℕ, ◌+◌, false, not, [], ◌∷◌, Result, nat_le}
 use Rattle.base.specs.declared.refusal.Refusal.{Refusal}
 use Rattle.base.specs.declared.refusal.Refusal.TheVariants.{Stranger, Company}
@@ -12,11 +12,24 @@ use Rattle.boxes.specs.declared.states.Held.{Held}
 
 -- what a new box holds: it has closed no round, has its own proposal for its estimate and misses nobody
 abbrev pub first_held : {K : Type 0} → BoxNumber → ℕ → ℕ → K → Held K
-first_held number n t proposal = record { number = number; n = n; t = t; closed = 0; estimate = proposal; missing = set_of (λ _. false); horizon = record { 0 = t + 1 } }
+first_held number n t proposal = record {
+  number = number;
+  n = n;
+  t = t;
+  closed = 0;
+  estimate = proposal;
+  missing = set_of (λ _. false);
+  horizon = record { 0 = t + 1 };
+}
 
--- making one
+-- what is made, or why not
 abbrev pub new_box : {K : Type 0} → BoxNumber → ℕ → ℕ → K → Result (Held K) Refusal
-new_box number n t proposal = unless ((not (is_company n t), Company) ∷ (nat_le n number.0, Stranger) ∷ []) (first_held number n t proposal)
+new_box number n t proposal =
+    unless
+    ((not (is_company n t), Company)
+    ∷ (nat_le n number.0, Stranger)
+    ∷ [])
+    (first_held number n t proposal)
 
 -- the round that a box opens next, or has open
 abbrev pub next_round : {K : Type 0} → Held K → RoundNumber

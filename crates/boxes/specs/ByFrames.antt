@@ -1,4 +1,4 @@
--- A round as the rule has it: by the frames that a box heard in it, whatever their order. Assumes nothing.
+-- A round as the rule has it: by the frames that a box heard in it, whatever their order. To be believed for boxes, and for the rule.
 use Rattle.std.specs.Prelude.{ℕ, Bool, false, if◌then◌else◌, not, ◌&&◌, List, [], ◌∷◌, is_some, Some, None, Option, Result, ◌==◌, nat_lt}
 use Rattle.std.specs.List.{find, filter_map}
 use Rattle.std.specs.Option.{unwrap_or}
@@ -20,10 +20,12 @@ use Rattle.proposals.specs.Kinds.{Kind}
 abbrev pub HeardFrames : Type 0 → Type 0
 HeardFrames K = ℕ → Option (Frame K)
 
+-- whether the frame of a box, if there is one, tells box i missing
 abbrev pub tells_missing : {K : Type 0} → Option (Frame K) → ℕ → Bool
 tells_missing None i = false
 tells_missing (Some f) i = member f.missing i
 
+-- the estimate in it, or d where there is none
 abbrev pub estimate_in : {K : Type 0} → K → Option (Frame K) → K
 estimate_in d None = d
 estimate_in d (Some f) = f.estimate
@@ -43,17 +45,21 @@ module _ {K : Type 0} (b : Held K) (h : HeardFrames K) where
 
 -- what the rule says of a box that heard these frames in its next round, its own among them
 unfoldable pub close_by_frames : {K : Type 0} → Kind K → Held K → HeardFrames K → Result (Outcome K) Refusal
-close_by_frames kind b h = close_with b (boxes_not_heard b h) (boxes_told_missing b h) (unwrap_or (first_estimate b h kind) b.estimate)
+close_by_frames kind b h =
+    close_with b (boxes_not_heard b h) (boxes_told_missing b h) (unwrap_or (first_estimate b h kind) b.estimate)
 
 -- what becomes of it then, where the tally is not refused
 unfoldable pub outcome_by_frames : {K : Type 0} → Kind K → Held K → HeardFrames K → Outcome K
-outcome_by_frames kind b h = outcome_with b (boxes_not_heard b h) (boxes_told_missing b h) (unwrap_or (first_estimate b h kind) b.estimate)
+outcome_by_frames kind b h =
+    outcome_with b (boxes_not_heard b h) (boxes_told_missing b h) (unwrap_or (first_estimate b h kind) b.estimate)
 
 -- that the box may hear the frame in its next round
 unfoldable pub admits : {K : Type 0} → Held K → Frame K → Bool
 admits b f =
     (f.round.0 == (next_round b).0)
-    && nat_lt f.sender.0 b.n && not (f.sender.0 == b.number.0) && not (member b.missing f.sender.0)
+    && nat_lt f.sender.0 b.n
+    && not (f.sender.0 == b.number.0)
+    && not (member b.missing f.sender.0)
     && not (bad_set b f)
 
 -- that it is of box q besides
@@ -62,7 +68,9 @@ is_from b q f = q == f.sender.0 && admits b f
 
 -- the frames heard in a round in which these came: its own, and of each other box the first that it may hear
 unfoldable pub heard_frames : {K : Type 0} → Held K → List (Frame K) → HeardFrames K
-heard_frames b came q = if q == b.number.0 then Some (frame_of b) else (find (is_from b q) came)
+heard_frames b came q =
+    if q == b.number.0 then Some (frame_of b)
+    else find (is_from b q) came
 
 module _ {K : Type 0} (kind : Kind K) where
   -- the frames among bytes that were told one after another

@@ -1,37 +1,43 @@
-// Faults of a box: each holds the round that was open, and the fault of a frame comes up inside.
+// What a listening box refuses.
 ghost use Rattle.std.specs.Prelude.{◌≡◌, Some};
 ghost use Rattle.boxes.specs.declared.fault.BoxFault.TheVariants.{Frame, Own};
 ghost use Rattle.boxes.specs.BoxFaults.{refusal_of, round_of, field_of, place_of, fault_text};
 
-use frames::{Field, FrameFault};
 use base::Refusal;
+use frames::{Field, FrameFault};
 use sets::RoundNumber;
 use std::error::Error;
 use std::fmt;
 
-// The fault of a frame, with the round that was open.
+/// Bytes told to a box that are no frame.
 #[derive(Clone, Copy, Debug, PartialEq, Eq)]
 pub struct RoundFault {
+    /// The round that was open.
     pub round: RoundNumber,
+    /// Why the bytes are no frame.
     pub fault: FrameFault,
 }
 
-// A refusal by the box itself, with the round that was open.
+/// A refusal by the box itself.
 #[derive(Clone, Copy, Debug, PartialEq, Eq)]
 pub struct OwnFault {
+    /// The round that was open.
     pub round: RoundNumber,
+    /// Why: of a frame stranger (5), off beat (6), heard (7), set (8) or down (14); of a closing tally (10).
     pub refusal: Refusal,
 }
 
+/// Why a listening box refused bytes, or to close its round.
 #[derive(Clone, Copy, Debug, PartialEq, Eq)]
 pub enum BoxFault {
-    // The bytes hold no frame.
+    /// The bytes are no frame.
     Frame(RoundFault),
-    // The box itself refused: a frame that it could read, or the tally.
+    /// The box itself refused: a frame that it could read, or the tally of its closing.
     Own(OwnFault),
 }
 
 impl BoxFault {
+    /// Which refusal it is: the frame's, or the box's own.
     pub fn refusal(self) -> Refusal
         ensures { result ≡ refusal_of self }
     {
@@ -41,7 +47,7 @@ impl BoxFault {
         }
     }
 
-    // The round that was open.
+    /// The round that was open.
     pub fn round(self) -> RoundNumber
         ensures { result ≡ round_of self }
     {
@@ -51,7 +57,7 @@ impl BoxFault {
         }
     }
 
-    // The field at fault, if it is the frame's.
+    /// The field of the frame that is at fault; none where the box itself refused.
     pub fn field(self) -> Option<Field>
         ensures { result ≡ field_of self }
     {
@@ -61,7 +67,7 @@ impl BoxFault {
         }
     }
 
-    // The place, from 0, at which the field at fault begins, or of the first surplus byte, if the fault is the frame's.
+    /// The place, from 0, of the first byte of what is at fault in the frame; none where the box itself refused.
     pub fn place(self) -> Option<usize>
         ensures { result ≡ place_of self }
     {
@@ -72,7 +78,7 @@ impl BoxFault {
     }
 }
 
-// What is at fault and the open round, as in `7 heard in round 1` and `3 padded set 2 in round 1`.
+/// What is at fault and the open round, as in `7 heard in round 1` and `3 padded set 2 in round 1`.
 impl fmt::Display for BoxFault {
     ghost output = { λ e. Some (fault_text e) };
 
@@ -86,6 +92,7 @@ impl fmt::Display for BoxFault {
 
 impl Error for BoxFault {}
 
+/// Bytes that are no frame are a fault met by the box.
 impl From<RoundFault> for BoxFault {
     ghost from_gives = { λ f r. r ≡ Frame f };
 
@@ -94,6 +101,7 @@ impl From<RoundFault> for BoxFault {
     }
 }
 
+/// A refusal by the box itself is a fault met by the box.
 impl From<OwnFault> for BoxFault {
     ghost from_gives = { λ f r. r ≡ Own f };
 

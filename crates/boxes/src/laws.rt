@@ -1,4 +1,4 @@
-// What holds of every box.
+// The theorems on boxes, for every kind of proposal.
 ghost use Rattle.boxes.specs.BoxLaws.{BoxKeeps, ListeningKeeps, RingsWhen, BoxIsDetermined, ListeningIsDetermined, FrameIsShort, NotesShowFrames, ClosesByFrames, SentAreRead, TellingAddsUp, IsOrderFree, ComposedIsHeard};
 
 use frames::frames_laws;

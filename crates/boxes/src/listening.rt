@@ -1,4 +1,4 @@
-// A listening box: it hears frames and closes its round.
+// Listening boxes.
 ghost use Rattle.std.specs.Prelude.{◌≡◌, ⊤};
 ghost use Rattle.std.specs.Result.{result_map_both, result_unwrap_or};
 ghost use Rattle.base.specs.Results.{map_fault, refused_with};
@@ -8,9 +8,9 @@ ghost use Rattle.boxes.specs.BoxRounds.{round_fault, own_fault, bad_set, frame_v
 
 use super::fault::{BoxFault, OwnFault, RoundFault};
 use super::states::{Closed, Held, Listening, Notes, Resting};
+use base::{Refusal, Refused};
 use frames::{Frame, read_frame};
 use proposals::Proposal;
-use base::{Refusal, Refused};
 use sets::{BoxNumber, BoxSet, RoundNumber};
 use std::alloc::AllocError;
 
@@ -31,7 +31,7 @@ impl<K: Proposal> Notes<K> {
     }
 }
 
-// A copy, which takes no memory. By hand, since `Clone` is not derived for a generic struct with ghost fields.
+/// A copy, which takes no memory and does not fail.
 impl<K: Copy> Clone for Listening<K> {
     ghost is_clone = { λ b c. c ≡ b };
 
@@ -43,6 +43,7 @@ impl<K: Copy> Clone for Listening<K> {
 }
 
 impl<K: Proposal> Listening<K> {
+    /// Its number, below n.
     pub fn number(self) -> BoxNumber
         ensures { result ≡ self.resting.held.number }
     {
@@ -56,6 +57,7 @@ impl<K: Proposal> Listening<K> {
         self.resting.next_round()
     }
 
+    // A refusal by the box itself.
     fn own_fault(self, refusal: Refusal) -> OwnFault
         ensures { result ≡ own_fault self.resting.held refusal }
     {
@@ -65,9 +67,10 @@ impl<K: Proposal> Listening<K> {
         }
     }
 
-    // The frame that the bytes hold, or its fault with the open round.
+    // The frame that the bytes are, or why they are none.
     fn read(self, bytes: &[u8]) -> Result<Frame<K>, RoundFault>
-        ensures { result ≡ map_fault (round_fault self.resting.held) (read_frame K.kind bytes.now) }
+        ensures { result
+            ≡ map_fault (round_fault self.resting.held) (read_frame K.kind bytes.now) }
     {
         read_frame::<K>(bytes).map_err(|fault| RoundFault {
             round: self.round(),
@@ -89,7 +92,8 @@ impl<K: Proposal> Listening<K> {
     // Whether the box refuses the frame, and why.
     #[tactic(auto, unfolding(crate::specs::BoxRounds::frame_verdict))]
     fn check(self, frame: Frame<K>) -> Result<(), OwnFault>
-        ensures { result ≡ map_fault (own_fault self.resting.held) (frame_verdict self.resting.held self.notes frame) }
+        ensures { result
+            ≡ map_fault (own_fault self.resting.held) (frame_verdict self.resting.held self.notes frame) }
     {
         if frame.round != self.round() {
             return Err(self.own_fault(Refusal::OffBeat));
@@ -109,12 +113,17 @@ impl<K: Proposal> Listening<K> {
         Ok(())
     }
 
-    // Hears the frame that the bytes hold; where it is refused the box stays as it was.
+    /// Tells bytes to the box, which notes the frame that they are. Refuses, and then leaves the box as it was: bytes that are no frame; then off beat
+    /// (6) if the frame is not of the open round; stranger (5) if its sender is not below n; heard (7) if its sender was heard in this round, as the box
+    /// itself was; down (14) if the box misses its sender; set (8) if its missing set has a box from n on, the sender or the box itself.
     #[tactic(auto, unfolding(crate::specs::BoxRounds::on_hear))]
     pub fn hear(&mut self, bytes: &[u8]) -> Result<(), BoxFault>
-        ensures answer { result ≡ result_map_both (λ _. tt) (λ e. e) (on_hear K.kind self.old.resting.held self.old.notes bytes.now) }
+        ensures answer { result
+            ≡ result_map_both (λ _. tt) (λ e. e)
+            (on_hear K.kind self.old.resting.held self.old.notes bytes.now) }
         ensures resting { self.new.resting ≡ self.old.resting }
-        ensures notes { self.new.notes ≡ result_unwrap_or (on_hear K.kind self.old.resting.held self.old.notes bytes.now) self.old.notes }
+        ensures notes { self.new.notes
+            ≡ result_unwrap_or (on_hear K.kind self.old.resting.held self.old.notes bytes.now) self.old.notes }
     {
         let frame = self.read(bytes)?;
         self.check(frame)?;
@@ -129,10 +138,13 @@ impl<K: Proposal> Listening<K> {
         BoxSet::all_below(self.resting.held.n).difference(self.notes.heard)
     }
 
-    // Closes the round by the frames heard; where the tally is refused the box goes on listening as it was.
+    /// Closes the round by the frames heard. The box then rings, in this round, on the estimate that goes first among its own and those heard, if the
+    /// round is its best horizon; else it is at rest, with one round more closed, that estimate, and the boxes not heard for those that it misses.
+    /// Refuses tally (10), and then gives the box back as it was, if it did not hear more than t boxes, or heard one that it knows missing.
     #[tactic(auto, unfolding(crate::specs::BoxRounds::on_close, crate::specs::BoxRounds::close_with))]
     pub fn close(self) -> Result<Closed<K>, Refused<Listening<K>, BoxFault>>
-        ensures { result_map_both outcome (λ e. e) result ≡ map_fault (refused_with self) (on_close self.resting.held self.notes) }
+        ensures { result_map_both outcome (λ e. e) result
+            ≡ map_fault (refused_with self) (on_close self.resting.held self.notes) }
     {
         let Held { t, horizon, .. } = self.resting.held;
         let known = self.notes.known;

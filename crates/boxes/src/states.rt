@@ -1,6 +1,7 @@
-// The states of a box, as types: at rest, listening, and what closing a round leaves. What every box keeps stands in its type.
+// The states of a box, as types. What every box keeps stands in its type.
 ghost use Rattle.std.specs.Prelude.{◌≡◌, ◌+◌, ◌^◌, ◌<◌, ◌≤◌, true, false};
 ghost use Rattle.base.specs.Counts.{count};
+ghost use Rattle.base.specs.Limits.{most_company};
 ghost use Rattle.sets.specs.Masks.{member};
 
 use sets::{BoxNumber, BoxSet, RoundNumber};
@@ -22,18 +23,19 @@ pub(crate) struct Held<K> {
     pub horizon: RoundNumber,
 }
 
-// A box between rounds.
+/// A box between rounds. Its company has n boxes, 2 to 32, of which t may fall, 1 to n − 1. Its number is below n; the boxes that it misses are
+/// below n too, at most t, and not itself; and its best horizon lies from its next round to t + 1.
 #[derive(Copy, Debug, PartialEq, Eq)]
 pub struct Resting<K> {
     pub(crate) held: Held<K>,
     ghost several: { 2 ≤ held.n },
-    ghost few: { held.n ≤ 32 },
+    ghost few: { held.n ≤ most_company },
     ghost fallible: { 1 ≤ held.t },
     ghost survived: { held.t < held.n },
     ghost placed: { held.number.0 < held.n },
     ghost within: { held.missing.mask < 2 ^ held.n },
     ghost present: { member held.missing held.number.0 ≡ false },
-    ghost sparse: { count (member held.missing) 32 ≤ held.t },
+    ghost sparse: { count (member held.missing) most_company ≤ held.t },
     ghost ahead: { held.closed + 1 ≤ held.horizon.0 },
     ghost due: { held.horizon.0 ≤ held.t + 1 },
 }
@@ -49,7 +51,7 @@ pub(crate) struct Notes<K> {
     pub foremost: K,
 }
 
-// A box that has opened a round and hears frames.
+/// A box that has opened a round and hears frames. It has heard itself.
 #[derive(Copy, Debug, PartialEq, Eq)]
 pub struct Listening<K> {
     // The box as it was at rest.
@@ -58,10 +60,12 @@ pub struct Listening<K> {
     ghost itself: { member notes.heard resting.held.number.0 ≡ true },
 }
 
-// What closing a round leaves: a box at rest, or the round in which it rings and the proposal on which it does.
+/// What closing a round leaves of a box.
 #[derive(Debug, PartialEq, Eq)]
 #[derive_where(Clone, Copy; K: Copy)]
 pub enum Closed<K> {
+    /// The box, at rest.
     Rests(Resting<K>),
+    /// The round in which it rings, which is the one closed, and the proposal on which it does.
     Rings { round: RoundNumber, proposal: K },
 }
