@@ -16,7 +16,7 @@ use Rattle.base.specs.Counts.{any, count}
 use Rattle.sets.specs.Masks.{member}
 use Rattle.sets.proofs.BitLemmas.{bit_high}
 use Rattle.base.proofs.CountLemmas.{none_any}
-use Rattle.base.specs.Results.{and_then, map_fault}
+use Rattle.base.specs.Results.{◌>>=◌, map_fault}
 use Rattle.frames.specs.Frames.{frame_bytes}
 use Rattle.frames.specs.FrameLaws.{HeadFits, FrameReadsBack}
 use Rattle.boxes.specs.declared.states.Held.{Held}
@@ -96,7 +96,7 @@ listening_determined a b held notes =
       itself = is_prop→PathP (λ j. member (notes j).heard (resting j).held.number.0 ≡ true) (λ j. Bool-set (member (notes j).heard (resting j).held.number.0) true) a.itself b.itself i;
     })
 
-then_mapped : {X Y D E : Type 0} (y : Y) (up : D → E) (r : Result X D) → and_then up r (λ _. Ok y) ≡ result_map_both (λ _. y) up r
+then_mapped : {X Y D E : Type 0} (y : Y) (up : D → E) (r : Result X D) → (map_fault up r >>= (λ _. Ok y)) ≡ result_map_both (λ _. y) up r
 then_mapped y up (Ok x) = refl
 then_mapped y up (Err e) = refl
 
@@ -129,7 +129,7 @@ module _ {K : Type 0} (kind : Kind K) where
       let f = frame_of a.held in
       let beat : eqb (a.held.closed + 1) (b.held.closed + 1) ≡ true = eq-eqb _ _ (ap (λ k. k + 1) closed) in
       let known : leb b.held.n a.held.number.0 ≡ false = lt-leb b.held.n a.held.number.0 (omega (arith, a.placed)) in
-      ap (λ r. and_then (frame_refusal b.held) r (λ g. and_then (box_refusal b.held) (frame_verdict b.held m g) (λ _. Ok (notes_with kind m g)))) (back f (frame_fits a))
+      ap (λ r. map_fault (frame_refusal b.held) r >>= (λ g. map_fault (box_refusal b.held) (frame_verdict b.held m g) >>= (λ _. Ok (notes_with kind m g)))) (back f (frame_fits a))
       ∙ then_mapped (notes_with kind m f) (box_refusal b.held) (frame_verdict b.held m f)
       ∙ (λ j. result_map_both (λ _. notes_with kind m f) (box_refusal b.held) (unless
       ((not (beat j), refusal.OffBeat) ∷ (known j, refusal.Stranger) ∷ (member m.heard a.held.number.0, refusal.Heard)

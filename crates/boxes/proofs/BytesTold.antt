@@ -8,7 +8,7 @@ use Rattle.std.proofs.lemmas.Bool.Decides.{nat_tests}
 use Rattle.sets.specs.Masks.{member}
 use Rattle.frames.specs.declared.fault.FrameFault.{FrameFault}
 use Rattle.frames.specs.declared.frame.Frame.{Frame}
-use Rattle.base.specs.Results.{and_then}
+use Rattle.base.specs.Results.{◌>>=◌, map_fault}
 use Rattle.frames.specs.Frames.{read_frame}
 use Rattle.boxes.specs.declared.states.Held.{Held}
 use Rattle.boxes.specs.declared.states.Notes.{Notes}
@@ -23,7 +23,7 @@ use Rattle.proposals.specs.Kinds.{Kind, IsOrder}
 
 -- what becomes of the notes by what was read
 abbrev by_read : {K : Type 0} → Kind K → Held K → Notes K → Result (Frame K) FrameFault → Notes K
-by_read kind b m r = result_unwrap_or (and_then (frame_refusal b) r (λ f. and_then (box_refusal b) (frame_verdict b m f) (λ _. Ok (notes_with kind m f)))) m
+by_read kind b m r = result_unwrap_or (map_fault (frame_refusal b) r >>= (λ f. map_fault (box_refusal b) (frame_verdict b m f) >>= (λ _. Ok (notes_with kind m f)))) m
 
 -- a frame is refused just if the box may not hear it or has heard its sender
 fault_is : {K : Type 0} (b : Held K) (m : Notes K) (f : Frame K) → member m.heard b.number.0 ≡ true
@@ -36,11 +36,11 @@ fault_is b m f itself =
 module _ {K : Type 0} (kind : Kind K) (b : Held K) (m : Notes K) (f : Frame K) where
   stays : any_fault (faults b m f) ≡ true → by_read kind b m (Ok f) ≡ m
   unfolding frame_verdict
-  stays e = let u = unless_some (faults b m f) tt e in ap (λ r. result_unwrap_or (and_then (box_refusal b) r (λ _. Ok (notes_with kind m f))) m) u.1
+  stays e = let u = unless_some (faults b m f) tt e in ap (λ r. result_unwrap_or (map_fault (box_refusal b) r >>= (λ _. Ok (notes_with kind m f))) m) u.1
 
   notes : any_fault (faults b m f) ≡ false → by_read kind b m (Ok f) ≡ notes_with kind m f
   unfolding frame_verdict
-  notes e = ap (λ r. result_unwrap_or (and_then (box_refusal b) r (λ _. Ok (notes_with kind m f))) m) (unless_none (faults b m f) tt e)
+  notes e = ap (λ r. result_unwrap_or (map_fault (box_refusal b) r >>= (λ _. Ok (notes_with kind m f))) m) (unless_none (faults b m f) tt e)
 
 admits_placed : {K : Type 0} (b : Held K) (f : Frame K) → admits b f ≡ true → f.sender.0 < b.n
 unfolding admits

@@ -11,7 +11,7 @@ use Rattle.sets.specs.Masks.{member, set_of}
 use Rattle.proposals.specs.Orders.{preferred}
 use Rattle.frames.specs.declared.fault.FrameFault.{FrameFault}
 use Rattle.frames.specs.declared.frame.Frame.{Frame}
-use Rattle.base.specs.Results.{and_then, map_fault}
+use Rattle.base.specs.Results.{◌>>=◌, map_fault}
 use Rattle.frames.specs.Frames.{read_frame}
 use Rattle.boxes.specs.declared.fault.RoundFault.{RoundFault}
 use Rattle.boxes.specs.declared.fault.OwnFault.{OwnFault}
@@ -76,10 +76,10 @@ module _ {K : Type 0} (kind : Kind K) where
 
   -- the notes after some bytes were told, or why they are refused
   unfoldable pub on_hear : Held K → Notes K → List ℕ → Result (Notes K) BoxFault
-  on_hear b m bytes =
-      and_then (frame_refusal b) (read_frame kind bytes) (λ f.
-      and_then (box_refusal b) (frame_verdict b m f) (λ _.
-      Ok (notes_with m f)))
+  on_hear b m bytes = do
+    f ← map_fault (frame_refusal b) (read_frame kind bytes)
+    _ ← map_fault (box_refusal b) (frame_verdict b m f)
+    Ok (notes_with m f)
 
 -- ---- closing
 

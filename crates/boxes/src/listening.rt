@@ -69,8 +69,8 @@ impl<K: Proposal> Listening<K> {
 
     // The frame that the bytes are, or why they are none.
     fn read(self, bytes: &[u8]) -> Result<Frame<K>, RoundFault>
-        ensures { result
-            ≡ map_fault (round_fault self.resting.held) (read_frame K.kind bytes.now) }
+        ensures { result ≡ map_fault (round_fault self.resting.held)
+            (read_frame K.kind bytes.now) }
     {
         read_frame::<K>(bytes).map_err(|fault| RoundFault {
             round: self.round(),
@@ -92,8 +92,8 @@ impl<K: Proposal> Listening<K> {
     // Whether the box refuses the frame, and why.
     #[tactic(auto, unfolding(crate::specs::BoxRounds::frame_verdict))]
     fn check(self, frame: Frame<K>) -> Result<(), OwnFault>
-        ensures { result
-            ≡ map_fault (own_fault self.resting.held) (frame_verdict self.resting.held self.notes frame) }
+        ensures { result ≡ map_fault (own_fault self.resting.held)
+            (frame_verdict self.resting.held self.notes frame) }
     {
         if frame.round != self.round() {
             return Err(self.own_fault(Refusal::OffBeat));
@@ -118,12 +118,11 @@ impl<K: Proposal> Listening<K> {
     /// itself was; down (14) if the box misses its sender; set (8) if its missing set has a box from n on, the sender or the box itself.
     #[tactic(auto, unfolding(crate::specs::BoxRounds::on_hear))]
     pub fn hear(&mut self, bytes: &[u8]) -> Result<(), BoxFault>
-        ensures answer { result
-            ≡ result_map_both (λ _. tt) (λ e. e)
+        ensures answer { result ≡ result_map_both (λ _. tt) (λ e. e)
             (on_hear K.kind self.old.resting.held self.old.notes bytes.now) }
         ensures resting { self.new.resting ≡ self.old.resting }
-        ensures notes { self.new.notes
-            ≡ result_unwrap_or (on_hear K.kind self.old.resting.held self.old.notes bytes.now) self.old.notes }
+        ensures notes { self.new.notes ≡ result_unwrap_or
+            (on_hear K.kind self.old.resting.held self.old.notes bytes.now) self.old.notes }
     {
         let frame = self.read(bytes)?;
         self.check(frame)?;
