@@ -1,13 +1,13 @@
--- What posting makes of a wire. Assumes nothing.
+-- What posting makes of a wire.
 use Rattle.std.proofs.Common.{◌≡◌, ℕ, ◌<◌, ◌≤◌, true, false, eqb, List, [], length, map, set, Ok, Err, Result, sym, ap, arith}
 use Rattle.std.proofs.lemmas.Bool.Decides.{nat_tests}
 use Rattle.std.proofs.lemmas.List.{map-set, length-map}
+use Rattle.base.specs.declared.refusal.Refusal.{Refusal}
+use Rattle.base.specs.Results.{answer, or_kept}
 use Rattle.arrayvec.specs.ArrayVec.{ArrayVec}
 use Rattle.frames.specs.Frames.{longest_frame}
 use Rattle.wire.specs.Postable.{is_postable}
-use Rattle.base.specs.declared.refusal.Refusal.{Refusal}
 use Rattle.wire.specs.WireState.{WireState, on_post, with_posted}
-use Rattle.base.specs.Results.{answer, or_kept}
 use Rattle.wire.specs.PostedBytes.{line_frame}
 use Rattle.wire.proofs.ListLemmas.{replaced}
 

@@ -1,4 +1,4 @@
--- What a roster shows, and what a change of it makes of that. Assumes nothing.
+-- What a roster shows, and what a change of it makes of that.
 use Rattle.std.proofs.Common.{◌≡◌, ℕ, ◌^◌, ◌<◌, ◌≤◌, Bool, true, false, cond, not, ◌&&◌, ◌||◌, eqb, List, is_some, Some, None, sym, refl, ap, subst, ◌∙◌, ◌⊎◌, inl, inr, arith}
 use Rattle.std.proofs.lemmas.Bool.{cases_Bool, eqb-true}
 use Rattle.sets.specs.declared.set.BoxSet.{BoxSet}
@@ -10,7 +10,8 @@ use Rattle.wire.specs.WireState.{WireState, falling_set, posted_set, on_close}
 use Rattle.wire.specs.Rosters.{some_if, roster_state}
 
 -- meanings with the same parts are the same
-pub meaning_ext : (a b : WireState) → a.n ≡ b.n → a.up ≡ b.up → ((q : ℕ) → a.lost q ≡ b.lost q) → ((q : ℕ) → a.posted q ≡ b.posted q) → a ≡ b
+pub meaning_ext : (a b : WireState) → a.n ≡ b.n → a.up ≡ b.up → ((q : ℕ) → a.lost q ≡ b.lost q) → ((q : ℕ) → a.posted q ≡ b.posted q)
+    → a ≡ b
 meaning_ext a b n up lost posted = λ i. record { n = n i; up = up i; lost = λ q. lost q i; posted = λ q. posted q i }
 
 is_some_if : {X : Type 0} (b : Bool) (x : X) → is_some (some_if b x) ≡ b
@@ -31,7 +32,8 @@ module _ (n q : ℕ) (s t : BoxSet) (few : n ≤ 32) (h : s.mask < 2 ^ n) (l : q
       → (i : ℕ) → some_if (member t i) (g i) ≡ cond (eqb i q) (Some x) (some_if (member s i) (f i))
   entered {X} f g x now before i = go (cases_Bool (eqb i q)) (entering n q s t few h l e i)
     where
-      go : (eqb i q ≡ true) ⊎ (eqb i q ≡ false) → member t i ≡ (member s i || eqb i q) → some_if (member t i) (g i) ≡ cond (eqb i q) (Some x) (some_if (member s i) (f i))
+      go : (eqb i q ≡ true) ⊎ (eqb i q ≡ false) → member t i ≡ (member s i || eqb i q)
+          → some_if (member t i) (g i) ≡ cond (eqb i q) (Some x) (some_if (member s i) (f i))
       go (inl y) k = let here : g i ≡ g q = ap g (eqb-true i q y) in grind (arith, now)
       go (inr y) k = let b = before i y in grind (arith, b)
 
@@ -67,4 +69,5 @@ module _ (r : Roster) where
     pub staying_within : (s : BoxSet) → s ≡ (on_close (roster_state r frames)).up → s.mask < 2 ^ r.n
     staying_within s e =
         (mask_below r.n s.mask).1 (λ i l.
-        member_only (λ k. member r.up k && not (member r.falling k)) (member r.up) s (e ∙ sym up_shown) (λ k t. grind arith) i (bit_high r.n r.up.mask i r.up_within l))
+        member_only (λ k. member r.up k && not (member r.falling k)) (member r.up) s (e ∙ sym up_shown) (λ k t. grind arith) i
+        (bit_high r.n r.up.mask i r.up_within l))

@@ -1,20 +1,20 @@
--- The bytes of a tape, and the sum of the lengths of the frames that stand there. Assumes nothing.
+-- The bytes of a tape, and the sum of the lengths of the frames that stand there.
 use Rattle.std.proofs.Common.{◌≡◌, ℕ, zero, suc, ◌+◌, ◌-◌, ◌*◌, ◌<◌, ◌≤◌, Bool, true, false, ◌||◌, eqb, leb, set, List, [], ◌++◌, length, drop, slice_range, refl, sym, ap, subst, ◌∙◌, ◌⊎◌, inl, inr, not-suc-le-zero, le_of_suc-le-suc, suc-le-suc, zero-le, arith}
 use Rattle.std.proofs.lemmas.Bool.Decides.{nat_tests}
 use Rattle.std.proofs.lemmas.List.{length-append, take-append-le, drop_at}
 use Rattle.std.proofs.Math.Seq.{take-length}
 use Rattle.std.proofs.lemmas.Bool.{cases_Bool, eqb-true}
 use Rattle.std.proofs.lemmas.Slice.{between_is}
-use Rattle.frames.specs.Frames.{longest_frame}
 use Rattle.base.specs.Counts.{count}
+use Rattle.base.proofs.CountLemmas.{count_bound, count_more}
 use Rattle.sets.specs.declared.set.BoxSet.{BoxSet}
 use Rattle.sets.specs.Masks.{member, set_of}
-use Rattle.base.proofs.CountLemmas.{count_bound, count_more}
 use Rattle.sets.proofs.MemberLemmas.{none_member}
+use Rattle.frames.specs.Frames.{longest_frame}
 use Rattle.wire.specs.declared.tape.Tape.{Tape}
+use Rattle.wire.specs.declared.span.Span.{Span}
 use Rattle.wire.specs.PostedBytes.{no_span, span_at, span_length, tape_frame, HoldsFrame, AreApart, sum_over}
 use Rattle.wire.specs.Postable.{is_postable}
-use Rattle.wire.specs.declared.span.Span.{Span}
 use Rattle.wire.proofs.PostLemmas.{postable_length}
 use Rattle.wire.proofs.ListLemmas.{replaced}
 
@@ -28,11 +28,13 @@ total_none P f (suc n) e =
     let here = e 0 in
     grind arith
 
-total_ext : (P Q : ℕ → Bool) (f g : ℕ → ℕ) (n : ℕ) → ((k : ℕ) → k < n → P k ≡ Q k) → ((k : ℕ) → k < n → P k ≡ true → f k ≡ g k) → sum_over P f n ≡ sum_over Q g n
+total_ext : (P Q : ℕ → Bool) (f g : ℕ → ℕ) (n : ℕ) → ((k : ℕ) → k < n → P k ≡ Q k) → ((k : ℕ) → k < n → P k ≡ true → f k ≡ g k)
+    → sum_over P f n ≡ sum_over Q g n
 unfolding sum_over
 total_ext P Q f g zero p e = refl
 total_ext P Q f g (suc n) p e =
-    let rest = total_ext (λ k. P (suc k)) (λ k. Q (suc k)) (λ k. f (suc k)) (λ k. g (suc k)) n (λ k l. p (suc k) (suc-le-suc l)) (λ k l. e (suc k) (suc-le-suc l)) in
+    let rest = total_ext (λ k. P (suc k)) (λ k. Q (suc k)) (λ k. f (suc k)) (λ k. g (suc k)) n
+    (λ k l. p (suc k) (suc-le-suc l)) (λ k l. e (suc k) (suc-le-suc l)) in
     let here = p 0 (omega arith) in
     let same = e 0 (omega arith) in
     grind (arith, here, same, rest)
@@ -43,11 +45,14 @@ total_more : (P : ℕ → Bool) (f g : ℕ → ℕ) (n q : ℕ) → q < n → P 
 unfolding sum_over
 total_more P f g zero q l e b = absurd (not-suc-le-zero l)
 total_more P f g (suc n) zero l e b =
-    let rest = total_ext (λ k. P (suc k) || eqb (suc k) zero) (λ k. P (suc k)) (λ k. g (suc k)) (λ k. f (suc k)) n (λ k _. grind (arith, nat_tests)) (λ k _ m. b (suc k) (grind (arith, nat_tests)) (grind (arith, nat_tests))) in
+    let rest = total_ext (λ k. P (suc k) || eqb (suc k) zero) (λ k. P (suc k)) (λ k. g (suc k)) (λ k. f (suc k)) n
+    (λ k _. grind (arith, nat_tests)) (λ k _ m. b (suc k) (grind (arith, nat_tests)) (grind (arith, nat_tests))) in
     grind (arith, nat_tests)
 total_more P f g (suc n) (suc q) l e b =
-    let ih = total_more (λ k. P (suc k)) (λ k. f (suc k)) (λ k. g (suc k)) n q (le_of_suc-le-suc l) e (λ k y m. b (suc k) (grind (arith, nat_tests)) m) in
-    let rest = total_ext (λ k. P (suc k) || eqb (suc k) (suc q)) (λ k. P (suc k) || eqb k q) (λ k. g (suc k)) (λ k. g (suc k)) n (λ k _. grind (arith, nat_tests)) (λ _ _ _. refl) in
+    let ih = total_more (λ k. P (suc k)) (λ k. f (suc k)) (λ k. g (suc k)) n q (le_of_suc-le-suc l) e
+    (λ k y m. b (suc k) (grind (arith, nat_tests)) m) in
+    let rest = total_ext (λ k. P (suc k) || eqb (suc k) (suc q)) (λ k. P (suc k) || eqb k q) (λ k. g (suc k)) (λ k. g (suc k)) n
+    (λ k _. grind (arith, nat_tests)) (λ _ _ _. refl) in
     let here : P 0 ≡ true → g 0 ≡ f 0 = b 0 (grind (arith, nat_tests)) in
     grind (arith, nat_tests)
 
@@ -67,7 +72,8 @@ none_filled s f xs e x = ap length x ∙ sym (total_none (member s) f 32 (none_m
 -- ---- the bytes
 
 -- where box q of the company has not posted, there is room for a frame
-pub room_left : (t : Tape) (q : ℕ) → q < t.roster.n → member t.roster.posted q ≡ false → length t.frames.items + longest_frame ≤ longest_frame * 32
+pub room_left : (t : Tape) (q : ℕ) → q < t.roster.n → member t.roster.posted q ≡ false
+    → length t.frames.items + longest_frame ≤ longest_frame * 32
 room_left t q company vacant =
     let P = member t.roster.posted in
     let all = total_bound P (span_length t.spans) longest_frame 32 (λ k m. omega (arith, t.holds k m)) in
@@ -99,7 +105,8 @@ module _ {t : Tape} {q : ℕ} {f bytes : List ℕ} {s : Span} (w : Appended t q 
   pub new_frame : tape_frame after bytes q ≡ f
   new_frame = ap (λ (x : Span). slice_range bytes x.start x.end) there.0 ∙ rw (w.items, w.start, w.end) (new_range t.frames.items f)
 
-  pub kept_frame : (i : ℕ) → eqb i q ≡ false → member t.roster.posted i ≡ true → tape_frame after bytes i ≡ tape_frame t.spans t.frames.items i
+  pub kept_frame : (i : ℕ) → eqb i q ≡ false → member t.roster.posted i ≡ true
+      → tape_frame after bytes i ≡ tape_frame t.spans t.frames.items i
   kept_frame i y m =
       ap (λ (x : Span). slice_range bytes x.start x.end) (there.1 i y)
       ∙ rw w.items (kept_range t.frames.items f (span_at t.spans i).start (span_at t.spans i).end (t.holds i m).2)
@@ -134,15 +141,19 @@ module _ {t : Tape} {q : ℕ} {f bytes : List ℕ} {s : Span} (w : Appended t q 
   pub filled_more : (P : ℕ → Bool) → member t.roster.posted q ≡ false → q < 32 → ((k : ℕ) → P k ≡ (member t.roster.posted k || eqb k q))
       → length bytes ≡ sum_over P (span_length after) 32
   filled_more P vacant l more =
-      let sum = total_more (member t.roster.posted) (span_length t.spans) (span_length after) 32 q l vacant (λ k y _. ap (λ (z : Span). z.end - z.start) (there.1 k y)) in
-      let all = total_ext P (λ k. member t.roster.posted k || eqb k q) (span_length after) (span_length after) 32 (λ k _. more k) (λ _ _ _. refl) in
-      let own : span_length after q ≡ length f = omega (arith, ap (λ (z : Span). z.start) there.0, ap (λ (z : Span). z.end) there.0, w.start, w.end) in
+      let sum = total_more (member t.roster.posted) (span_length t.spans) (span_length after) 32 q l vacant
+      (λ k y _. ap (λ (z : Span). z.end - z.start) (there.1 k y)) in
+      let all = total_ext P (λ k. member t.roster.posted k || eqb k q) (span_length after) (span_length after) 32
+      (λ k _. more k) (λ _ _ _. refl) in
+      let own : span_length after q ≡ length f =
+      omega (arith, ap (λ (z : Span). z.start) there.0, ap (λ (z : Span). z.end) there.0, w.start, w.end) in
       omega (arith, t.filled, as_long)
 
   pub holds_more : is_postable f ≡ true → HoldsFrame (length bytes) (span_at after q)
   holds_more e =
       let p = postable_length f e in
-      subst (HoldsFrame (length bytes)) (sym there.0) (omega (arith, p, w.start, w.end), omega (arith, p, w.start, w.end), omega (arith, w.end, as_long))
+      subst (HoldsFrame (length bytes)) (sym there.0)
+      (omega (arith, p, w.start, w.end), omega (arith, p, w.start, w.end), omega (arith, w.end, as_long))
 
   pub held_before : (i : ℕ) → member t.roster.posted i ≡ true → HoldsFrame (length bytes) (span_at t.spans i)
   held_before i m =

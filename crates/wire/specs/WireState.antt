@@ -1,4 +1,4 @@
--- What a wire means, and what each call makes of it. Assumes nothing.
+-- What a wire means, and what each call makes of it. To be believed for the wire.
 use Rattle.std.specs.Prelude.{◌≡◌, ℕ, ◌^◌, ◌<◌, Bool, true, false, if◌then◌else◌, not, ◌&&◌, ◌||◌, List, [], ◌∷◌, length, is_some, Some, None, Option, unwrap_or, option_map, Ok, Err, Result, ◌==◌, nat_le, nat_lt}
 use Rattle.std.specs.Result.{result_map_both}
 use Rattle.base.specs.declared.refusal.Refusal.{Refusal}
@@ -10,18 +10,20 @@ use Rattle.sets.specs.Companies.{is_company_size, is_bad_lost}
 use Rattle.sets.specs.Masks.{member, set_of}
 use Rattle.wire.specs.Postable.{IsFalling, is_postable}
 
--- what a wire is at some moment: how many boxes it joins, which of them are up, the lost set of each box that is falling (the boxes that do
--- not hear what it posts), and the bytes that each box has posted. A box that is not falling has no lost set, one that has not posted no bytes
+-- what a wire is at some moment: how many boxes it joins, which of them are up, the lost set of each box that is falling (the boxes that
+-- do not hear what it posts), and the bytes that each box has posted. A box that is not falling has no lost set, one that has not posted
+-- no bytes
 pub record WireState : Type 0 where
   pub n : ℕ
   pub up : BoxSet
   pub lost : ℕ → Option BoxSet
   pub posted : ℕ → Option (List ℕ)
 
--- the boxes that are falling, and those that have posted
+-- the boxes that are falling
 abbrev pub falling_set : WireState → BoxSet
 falling_set m = set_of (λ i. is_some (m.lost i))
 
+-- those that have posted
 abbrev pub posted_set : WireState → BoxSet
 posted_set m = set_of (λ i. is_some (m.posted i))
 
@@ -84,8 +86,6 @@ on_post q f m =
     ∷ (not (is_postable f), refusal.Narrow)
     ∷ [])
     (with_posted q f m)
-
--- ---- what a call that may be refused tells, and leaves
 
 -- ---- fetching
 

@@ -1,4 +1,4 @@
-// The wire: what joins the boxes of a company, in two makes, a board and a tape.
+//! The wire: what joins the boxes of a company. A trait, [`Wire`], says what it does, and two types do so: [`Board`] and [`Tape`].
 #![tactic(auto)]
 
 mod board;

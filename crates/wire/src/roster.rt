@@ -1,4 +1,5 @@
-// The roster of a wire: all that a wire means but the bytes. Its contracts say what it makes of that meaning, whatever the bytes are.
+// The roster of a wire: who is up, who falls and who has posted. Its contracts say what a call makes of the meaning of a wire, whatever the
+// bytes are.
 ghost use Rattle.std.specs.Prelude.{◌≡◌, ℕ, ◌^◌, ◌<◌, ◌≤◌, true};
 ghost use Rattle.sets.specs.Masks.{member};
 ghost use Rattle.wire.specs.Postable.{set_at, IsFalling};
@@ -28,15 +29,16 @@ pub(crate) struct Roster {
 impl Roster {
     ghost use Rattle.std.specs.Prelude.{List, length, IfOk, OnOk, OnErr, false, ◌||◌, ◌==◌};
     ghost use Rattle.std.specs.Result.{result_map_both};
+    ghost use Rattle.base.specs.Results.{answer, or_kept};
     ghost use Rattle.sets.specs.Masks.{set_of};
     ghost use Rattle.wire.specs.Postable.{is_postable};
-    ghost use Rattle.wire.specs.WireState.{on_make, on_open, on_close, on_fall, on_post, with_posted, on_fetch, fetch_answer, fetched_bytes};
-    ghost use Rattle.base.specs.Results.{answer, or_kept};
-    ghost use Rattle.wire.specs.Rosters.{roster_state, reach_answer};
+    ghost use Rattle.wire.specs.WireState.{on_make, on_open, on_close, on_fall, on_post, on_fetch, fetch_answer, fetched_bytes};
+    ghost use Rattle.wire.specs.Rosters.{roster_state, ForAnyBytes, ForBytesOf, Becomes, EntersPosted, reach_answer};
 
     #[tactic(auto, unfolding(crate::specs::WireState::on_make))]
     pub(crate) fn new(n: u32) -> Result<Roster, Refusal>
-        ensures made { (frames : ℕ → List ℕ) → result_map_both (λ r. roster_state r frames) (λ e. e) result ≡ on_make n }
+        ensures made { (frames : ℕ → List ℕ)
+            → result_map_both (λ r. roster_state r frames) (λ e. e) result ≡ on_make n }
         ensures posted { IfOk result (λ r. r.posted ≡ set_of (λ _. false)) }
     {
         if !is_company_size(n) {
@@ -53,14 +55,14 @@ impl Roster {
 
     pub(crate) fn open(&mut self)
         ensures posted { self.new.posted ≡ set_of (λ _. false) }
-        ensures meaning { (frames : ℕ → List ℕ) → roster_state self.new frames ≡ on_open (roster_state self.old frames) }
+        ensures meaning { Becomes on_open self.old self.new }
     {
         self.posted = BoxSet::empty();
     }
 
     pub(crate) fn close(&mut self)
         ensures posted { self.new.posted ≡ self.old.posted }
-        ensures meaning { (frames : ℕ → List ℕ) → roster_state self.new frames ≡ on_close (roster_state self.old frames) }
+        ensures meaning { Becomes on_close self.old self.new }
     {
         self.up = self.up.difference(self.falling);
         self.falling = BoxSet::empty();
@@ -68,9 +70,9 @@ impl Roster {
 
     #[tactic(auto, unfolding(crate::specs::WireState::on_fall))]
     pub(crate) fn fall(&mut self, q: BoxNumber, lost: BoxSet) -> Result<(), Refusal>
-        ensures answer { (frames : ℕ → List ℕ) → result ≡ answer (on_fall q.0 lost (roster_state self.old frames)) }
+        ensures answer { ForAnyBytes self.old (λ m. result ≡ answer (on_fall q.0 lost m)) }
         ensures posted { self.new.posted ≡ self.old.posted }
-        ensures meaning { (frames : ℕ → List ℕ) → roster_state self.new frames ≡ or_kept (roster_state self.old frames) (on_fall q.0 lost (roster_state self.old frames)) }
+        ensures meaning { Becomes (λ m. or_kept m (on_fall q.0 lost m)) self.old self.new }
         ensures refused { OnErr result (self.new ≡ self.old) }
     {
         if q.0 >= self.n {
@@ -90,7 +92,7 @@ impl Roster {
     // Whether box q may post the frame, and why not.
     #[tactic(auto, unfolding(crate::specs::WireState::on_post))]
     pub(crate) fn check_posting(&self, q: BoxNumber, frame: &[u8]) -> Result<(), Refusal>
-        ensures answer { (frames : ℕ → List ℕ) → result ≡ answer (on_post q.0 frame.now (roster_state self.now frames)) }
+        ensures answer { ForAnyBytes self.now (λ m. result ≡ answer (on_post q.0 frame.now m)) }
         ensures company { OnOk result (q.0 < self.now.n) }
         ensures vacant { OnOk result (member self.now.posted q.0 ≡ false) }
         ensures postable { OnOk result (is_postable frame.now ≡ true) }
@@ -110,18 +112,18 @@ impl Roster {
         Ok(())
     }
 
-    // Enters that box q has posted, where what the others posted stays.
+    // Enters that box q has posted.
     pub(crate) fn enter_posted(&mut self, q: BoxNumber)
         requires { q.0 < self.old.n }
         ensures posted { self.new.posted ≡ set_of (λ i. member self.old.posted i || i == q.0) }
-        ensures meaning { (before after : ℕ → List ℕ) → ((i : ℕ) → (i == q.0) ≡ false → member self.old.posted i ≡ true → after i ≡ before i) → roster_state self.new after ≡ with_posted q.0 (after q.0) (roster_state self.old before) }
+        ensures meaning { EntersPosted q.0 self.old self.new }
     {
         self.posted = self.posted.with(q);
     }
 
     // Whether there is something that box p hears of box q.
     fn reaches(&self, p: BoxNumber, q: BoxNumber) -> Result<bool, Refusal>
-        ensures { (frames : ℕ → List ℕ) → result ≡ reach_answer p.0 q.0 (roster_state self.now frames) }
+        ensures { ForAnyBytes self.now (λ m. result ≡ reach_answer p.0 q.0 m) }
     {
         if p.0 >= self.n || q.0 >= self.n {
             return Err(Refusal::Stranger);
@@ -139,8 +141,10 @@ impl Roster {
         frame: &[u8],
         out: &mut [u8],
     ) -> Result<Option<usize>, Refusal>
-        ensures answer { (frames : ℕ → List ℕ) → (member self.now.posted q.0 ≡ true → frame.now ≡ frames q.0) → result ≡ fetch_answer (on_fetch p.0 q.0 (length out.old) (roster_state self.now frames)) }
-        ensures bytes { (frames : ℕ → List ℕ) → (member self.now.posted q.0 ≡ true → frame.now ≡ frames q.0) → out.new ≡ fetched_bytes (on_fetch p.0 q.0 (length out.old) (roster_state self.now frames)) out.old }
+        ensures answer { ForBytesOf self.now q.0 frame.now
+            (λ m. result ≡ fetch_answer (on_fetch p.0 q.0 (length out.old) m)) }
+        ensures bytes { ForBytesOf self.now q.0 frame.now
+            (λ m. out.new ≡ fetched_bytes (on_fetch p.0 q.0 (length out.old) m) out.old) }
     {
         if !self.reaches(p, q)? {
             return Ok(None);

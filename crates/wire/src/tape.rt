@@ -1,4 +1,4 @@
-// The tape: a wire on which frames of their own length follow one another as posted.
+// The tape.
 ghost use Rattle.std.specs.Prelude.{◌≡◌, ℕ, ◌+◌, ◌≤◌, ◌++◌, true, length};
 ghost use Rattle.sets.specs.Masks.{member};
 ghost use Rattle.wire.specs.PostedBytes.{span_at, span_length, HoldsFrame, AreApart, sum_over};
@@ -6,20 +6,24 @@ ghost use Rattle.wire.specs.PostedBytes.{span_at, span_length, HoldsFrame, AreAp
 use super::roster::{PLACES, Roster};
 use super::span::Span;
 use arrayvec::ArrayVec;
-use frames::LONGEST_FRAME;
 use base::Refusal;
+use frames::LONGEST_FRAME;
 use sets::BoxNumber;
 
 // Room for a frame of each box.
 const TAPE_ROOM: usize = PLACES * LONGEST_FRAME;
 
+/// A wire of 768 bytes on which the frames follow one another as posted, each of its own length, with a table of where the frame of each box
+/// begins and ends. It keeps that the span of a box that has posted is of 1 to 24 bytes, and that each byte in use is in just one of these
+/// spans.
 #[derive(Drop, Debug)]
 pub struct Tape {
     pub(crate) roster: Roster,
-    // By the number of the box; of no meaning where it has not posted. Each byte is in the span of just one that has.
+    // By the number of the box; of no meaning where it has not posted.
     pub(crate) spans: [Span; PLACES],
     pub(crate) frames: ArrayVec<u8, TAPE_ROOM>,
-    ghost holds: { (q : ℕ) → member roster.posted q ≡ true → HoldsFrame (length frames.items) (span_at spans q) },
+    ghost holds: { (q : ℕ) → member roster.posted q ≡ true
+        → HoldsFrame (length frames.items) (span_at spans q) },
     ghost apart: { AreApart (member roster.posted) (span_at spans) },
     ghost filled: { length frames.items ≡ sum_over (member roster.posted) (span_length spans) 32 },
 }
@@ -30,7 +34,7 @@ impl Tape {
     ghost use Rattle.wire.specs.PostedBytes.{tape_frame};
     ghost use Rattle.wire.specs.Wires.{tape_meaning};
 
-    // A tape for n boxes, all up.
+    /// A tape for n boxes, all up, none falling and nothing posted. Refuses company (11) where n is not 2 to 32.
     pub fn new(n: u32) -> Result<Tape, Refusal>
         ensures { result_map_both tape_meaning (λ e. e) result ≡ on_make n }
     {
@@ -43,7 +47,8 @@ impl Tape {
 
     // The frame that box q has posted, or any bytes if it has not.
     pub(crate) fn frame(&self, q: BoxNumber) -> &[u8]
-        ensures { member self.now.roster.posted q.0 ≡ true → result.now ≡ tape_frame self.now.spans self.now.frames.items q.0 }
+        ensures { member self.now.roster.posted q.0 ≡ true
+            → result.now ≡ tape_frame self.now.spans self.now.frames.items q.0 }
     {
         match self.spans.get(q.0 as usize) {
             Some(span) => self.frames.get(span.start..span.end).unwrap_or(&[]),

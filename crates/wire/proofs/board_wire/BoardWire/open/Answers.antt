@@ -1,6 +1,6 @@
 use Rattle.std.proofs.Common.{arith}
-use Rattle.wire.proofs.RosterLemmas.{absent}
 use Rattle.wire.specs.PostedBytes.{line_frame}
+use Rattle.wire.proofs.RosterLemmas.{absent}
 use Rattle.wire.proofs.board_wire.BoardWire.open.Goals as goal
 
 pub invariant_of-self : goal.invariant_of-self

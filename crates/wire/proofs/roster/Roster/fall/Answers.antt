@@ -1,11 +1,11 @@
 use Rattle.std.proofs.Common.{◌≡◌, false, ◌&&◌, leb, set, Ok, sym, ap, subst, refl, ◌∙◌, arith}
 use Rattle.std.proofs.lemmas.Bool.Decides.{nat_tests}
 use Rattle.base.specs.Counts.{any}
+use Rattle.base.specs.Results.{or_kept}
 use Rattle.sets.specs.Masks.{member}
 use Rattle.sets.proofs.MemberLemmas.{none_beyond}
 use Rattle.wire.specs.Postable.{no_boxes, set_at, IsFalling}
 use Rattle.wire.specs.WireState.{on_fall, with_falling}
-use Rattle.base.specs.Results.{or_kept}
 use Rattle.wire.specs.Rosters.{roster_state}
 use Rattle.wire.proofs.ListLemmas.{replaced}
 use Rattle.wire.proofs.RosterLemmas.{entered, falling_within, kept_more, meaning_ext}
