@@ -1,19 +1,21 @@
--- How far blows have come counts for nothing but what is told, drawing and giving back. Assumes nothing.
-use Rattle.std.proofs.Common.{◌≡◌, ℕ, Bool, true, false, cond, not, eqb, [], ◌∷◌, Some, None, Ok, Option, option_map, Result, is_ok, sym, refl, ap, ◌∙◌, arith}
+-- How far blows have come counts for nothing but what is told, drawing and giving back.
 use Rattle.std.specs.List.{slice_get}
 use Rattle.std.specs.Option.{ok_or}
+use Rattle.std.proofs.Common.{◌≡◌, ℕ, Bool, true, false, cond, not, eqb, [], ◌∷◌, Some, None, Ok, Option, option_map, Result, is_ok, sym, refl, ap, ◌∙◌, arith}
 use Rattle.std.proofs.lemmas.Bool.Decides.{nat_tests}
 use Rattle.base.specs.declared.refusal.Refusal.{Refusal}
 use Rattle.base.specs.declared.refusal.Refusal.TheVariants as refusal
 use Rattle.base.specs.Refusals.{unless}
+use Rattle.base.specs.Results.{◌>>=◌}
+use Rattle.base.specs.Numbered.{by_number}
+use Rattle.base.proofs.NumberedLemmas.{list_ext, get-by_number, length-by_number, any-by_number, each-by_number, list_none}
 use Rattle.sets.specs.declared.box_number.BoxNumber.{BoxNumber}
 use Rattle.sets.specs.declared.round_number.RoundNumber.{RoundNumber}
 use Rattle.sets.specs.declared.set.BoxSet.{BoxSet}
-use Rattle.base.specs.Results.{and_then}
+use Rattle.proposals.specs.Kinds.{Kind}
 use Rattle.machine.specs.declared.place.Blow.{Blow}
 use Rattle.machine.specs.declared.place.Blow.TheVariants as blow
 use Rattle.machine.specs.declared.place.Rung.{Rung}
-use Rattle.base.specs.Numbered.{by_number}
 use Rattle.machine.specs.Places.{PlaceState, at_rest, down, rung, standing_of, rung_of, with_its_blow, is_undrawn, is_out}
 use Rattle.machine.specs.State.{State, has_rung}
 use Rattle.machine.specs.RowCheck.{is_misplaced, bad_row, is_over, row_verdict}
@@ -21,8 +23,6 @@ use Rattle.machine.specs.FallCall.{on_fall}
 use Rattle.machine.specs.RoundCall.{on_round}
 use Rattle.machine.specs.OrderCalls.{with_blow, with_blows, on_draw, is_out_in, on_report}
 use Rattle.machine.specs.AskCall.{on_ask}
-use Rattle.base.proofs.NumberedLemmas.{list_ext, get-by_number, length-by_number, any-by_number, each-by_number, list_none}
-use Rattle.proposals.specs.Kinds.{Kind}
 
 module _ {K : Type 0} (blows : ℕ → Blow) (s : State K) where
   abbrev f : ℕ → PlaceState K → PlaceState K
@@ -65,7 +65,9 @@ module _ {K : Type 0} (blows : ℕ → Blow) (s : State K) where
   pub blow_on : (b : Blow) (p : ℕ) → with_blow b p (with_blows blows s) ≡ with_blows (λ q. cond (eqb q p) b (blows q)) s
   blow_on b p = λ j. record s { row = rows j }
     where
-      at : (q : ℕ) (o : Option (PlaceState K)) (t : Bool) → option_map (λ x. cond t (with_its_blow b x) x) (option_map (with_its_blow (blows q)) o) ≡ option_map (with_its_blow (cond t b (blows q))) o
+      at : (q : ℕ) (o : Option (PlaceState K)) (t : Bool)
+          → option_map (λ x. cond t (with_its_blow b x) x) (option_map (with_its_blow (blows q)) o)
+          ≡ option_map (with_its_blow (cond t b (blows q))) o
       at q None t = refl
       at q (Some (at_rest h)) true = refl
       at q (Some (at_rest h)) false = refl
@@ -107,11 +109,11 @@ pub record Out {K : Type 0} (s : State K) (b : Blow) (p : ℕ) (r : RoundNumber)
 
 module _ {K : Type 0} (s : State K) (p : BoxNumber) where
   abbrev drawing_of : Option (PlaceState K) → Result (RoundNumber × State K) Refusal
-  drawing_of o =
-      and_then (λ e. e) (row_verdict s) (λ _.
-      and_then (λ e. e) (ok_or o refusal.Stranger) (λ place.
-      and_then (λ e. e) (ok_or (rung_of place) refusal.Silent) (λ x.
-      unless ((not (is_undrawn x.blow), refusal.Order) ∷ []) (x.round, with_blow blow.Out p.0 s))))
+  drawing_of o = do
+    _ ← row_verdict s
+    place ← ok_or o refusal.Stranger
+    x ← ok_or (rung_of place) refusal.Silent
+    unless ((not (is_undrawn x.blow), refusal.Order) ∷ []) (x.round, with_blow blow.Out p.0 s)
 
   pub was_drawn : (r : RoundNumber) (then : State K) → on_draw p s ≡ Ok (r, then) → Undrawn s p.0 r then
   unfolding on_draw
@@ -127,7 +129,8 @@ module _ {K : Type 0} (s : State K) (p : BoxNumber) where
   unfolding on_report
   was_reported b r then e = by (slice_get s.row p.0) refl e
     where
-      by : (o : Option (PlaceState K)) → slice_get s.row p.0 ≡ o → unless ((bad_row s, refusal.Row) ∷ (not (is_out_in r o), refusal.Order) ∷ []) (with_blow b p.0 s) ≡ Ok then → Out s b p.0 r then
+      by : (o : Option (PlaceState K)) → slice_get s.row p.0 ≡ o
+          → unless ((bad_row s, refusal.Row) ∷ (not (is_out_in r o), refusal.Order) ∷ []) (with_blow b p.0 s) ≡ Ok then → Out s b p.0 r then
       by None at e = absurd (grind arith)
       by (Some (at_rest h)) at e = absurd (grind arith)
       by (Some (down f)) at e = absurd (grind arith)

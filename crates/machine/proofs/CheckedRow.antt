@@ -1,11 +1,12 @@
--- A row that is not refused. Assumes nothing.
-use Rattle.std.proofs.Common.{◌≡◌, ℕ, ◌<◌, ◌≤◌, true, false, ◌&&◌, List, [], ◌∷◌, length, map, Some, None, Option, option_map, sym, refl, ap, ◌∙◌, arith}
+-- A row that is not refused.
 use Rattle.std.specs.List.{list_any, slice_get}
+use Rattle.std.proofs.Common.{◌≡◌, ℕ, ◌<◌, ◌≤◌, true, false, ◌&&◌, List, [], ◌∷◌, length, map, Some, None, Option, option_map, sym, refl, ap, ◌∙◌, arith}
 use Rattle.std.proofs.lemmas.Bool.Decides.{nat_tests}
 use Rattle.std.proofs.lemmas.Option.{slice_get-map, slice_get_within}
 use Rattle.base.specs.Counts.{any}
-use Rattle.sets.specs.Masks.{member}
 use Rattle.base.proofs.CountLemmas.{any_none}
+use Rattle.base.proofs.NumberedLemmas.{none_numbered}
+use Rattle.sets.specs.Masks.{member}
 use Rattle.sets.proofs.MemberLemmas.{member_below}
 use Rattle.boxes.specs.declared.states.Held.{Held}
 use Rattle.boxes.specs.declared.states.Resting.{Resting}
@@ -14,7 +15,6 @@ use Rattle.machine.specs.declared.place.Place.TheVariants as place
 use Rattle.machine.specs.Places.{PlaceState, at_rest, place_state}
 use Rattle.machine.specs.State.{State, gone_count, has_rung}
 use Rattle.machine.specs.RowCheck.{is_misplaced, bad_row}
-use Rattle.base.proofs.NumberedLemmas.{none_numbered}
 
 -- whether a box rings, by the places or by what stands in them
 pub over_is : {K : Type 0} (row : List (Place K)) → list_any has_rung (map place_state row) ≡ list_any (λ x. has_rung (place_state x)) row
@@ -84,7 +84,8 @@ module _ {K : Type 0} (s : State K) (row : List (Place K)) (is : s.row ≡ map p
         misses = λ q m. by q m (grind (arith, nat_tests)) (any_none (λ q. member b.missing q && member s.wire.up q) 32 none q);
       }
     where
-      by : (q : ℕ) → member b.missing q ≡ true → b.n ≡ s.wire.n → (q < 32 → (member b.missing q && member s.wire.up q) ≡ false) → (q < s.wire.n) × (member s.wire.up q ≡ false)
+      by : (q : ℕ) → member b.missing q ≡ true → b.n ≡ s.wire.n → (q < 32 → (member b.missing q && member s.wire.up q) ≡ false)
+          → (q < s.wire.n) × (member s.wire.up q ≡ false)
       by q m n f =
           let l = bounded p b at q m in
           let u = f (omega (arith, l.0, l.1)) in

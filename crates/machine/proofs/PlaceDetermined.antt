@@ -1,4 +1,4 @@
--- A place is determined by what stands there, and a row by its places. Assumes nothing.
+-- A place is determined by what stands there, and a row by its places.
 use Rattle.std.proofs.Common.{◌≡◌, [], ◌∷◌, refl, ap, arith}
 use Rattle.boxes.specs.BoxLaws.{BoxIsDetermined}
 use Rattle.machine.specs.declared.place.Place.{Place}

@@ -1,10 +1,12 @@
--- What the row check means, and when a ringing is made. Assumes nothing.
-use Rattle.std.proofs.Common.{◌≡◌, ℕ, false, ◌&&◌, is_some, Some, ap, arith}
+-- What the row check means, and when a ringing is made.
 use Rattle.std.specs.List.{slice_get}
+use Rattle.std.proofs.Common.{◌≡◌, ℕ, false, ◌&&◌, is_some, Some, ap, arith}
 use Rattle.std.proofs.lemmas.Bool.Decides.{nat_tests}
 use Rattle.base.specs.Counts.{any}
-use Rattle.sets.specs.Masks.{member}
 use Rattle.base.proofs.CountLemmas.{any_none, none_any}
+use Rattle.base.proofs.NumberedLemmas.{none_numbered}
+use Rattle.sets.specs.Masks.{member}
+use Rattle.proposals.specs.Kinds.{Kind}
 use Rattle.machine.specs.Places.{PlaceState, at_rest, down, rung}
 use Rattle.machine.specs.State.{is_gone}
 use Rattle.machine.specs.MakeCall.{on_make}
@@ -14,8 +16,6 @@ use Rattle.machine.specs.RoundCall.{on_round}
 use Rattle.machine.specs.OrderCalls.{on_draw, on_report}
 use Rattle.machine.specs.AskCall.{on_ask}
 use Rattle.machine.specs.MachineLaws.{MakeIsAccepted, BadRowIsFirst, GoodRowMeans}
-use Rattle.base.proofs.NumberedLemmas.{none_numbered}
-use Rattle.proposals.specs.Kinds.{Kind}
 
 pub make_accepted : {K : Type 0} → MakeIsAccepted K
 unfolding on_make

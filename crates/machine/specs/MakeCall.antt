@@ -3,11 +3,11 @@ use Rattle.std.specs.Prelude.{ℕ, Bool, not, ◌&&◌, ◌||◌, List, [], ◌�
 use Rattle.base.specs.declared.refusal.Refusal.{Refusal}
 use Rattle.base.specs.declared.refusal.Refusal.TheVariants as refusal
 use Rattle.base.specs.Refusals.{unless}
-use Rattle.sets.specs.Companies.{is_company}
 use Rattle.base.specs.Counts.{any}
+use Rattle.base.specs.Numbered.{by_number}
+use Rattle.sets.specs.Companies.{is_company}
 use Rattle.boxes.specs.Boxes.{first_held}
 use Rattle.wire.specs.WireState.{WireState}
-use Rattle.base.specs.Numbered.{by_number}
 use Rattle.machine.specs.Places.{PlaceState, at_rest}
 use Rattle.machine.specs.State.{State, is_gone}
 

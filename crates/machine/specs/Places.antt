@@ -1,4 +1,4 @@
--- What stands at a place of a row, by what a box there holds, and what is told of it. Assumes nothing.
+-- What stands at a place of a row, by what a box there holds, and what is told of it. To be believed for the promise.
 use Rattle.std.specs.Prelude.{ℕ, Bool, true, false, List, codes, Some, None, Option}
 use Rattle.sets.specs.declared.round_number.RoundNumber.{RoundNumber}
 use Rattle.boxes.specs.declared.states.Held.{Held}
@@ -28,7 +28,7 @@ abbrev pub state_of_outcome : {K : Type 0} → Outcome K → PlaceState K
 state_of_outcome (rests b) = at_rest b
 state_of_outcome (rings r v) = rung (record { round = r; proposal = v; blow = blow.Undrawn })
 
--- what is told of it
+-- what is told of the box there
 abbrev pub standing_of : {K : Type 0} → PlaceState K → Standing K
 standing_of (at_rest b) = standing.Up
 standing_of (down r) = standing.Down r
@@ -40,7 +40,7 @@ rung_of (at_rest b) = None
 rung_of (down r) = None
 rung_of (rung x) = Some x
 
--- the same, where its blow is b. A box that does not ring has none
+-- what stands there, where the blow is b. A box that does not ring has none
 abbrev pub with_its_blow : {K : Type 0} → Blow → PlaceState K → PlaceState K
 with_its_blow b (at_rest h) = at_rest h
 with_its_blow b (down r) = down r
@@ -62,22 +62,26 @@ is_out blow.Missed = false
 
 -- ---- word, round and proposal of what is told
 
+-- the word for a blow
 abbrev pub blow_word : Blow → List ℕ
 blow_word blow.Undrawn = codes "rings"
 blow_word blow.Out = codes "out"
 blow_word blow.Struck = codes "struck"
 blow_word blow.Missed = codes "missed"
 
+-- the word for what is told
 abbrev pub standing_word : {K : Type 0} → Standing K → List ℕ
 standing_word standing.Up = codes "up"
 standing_word (standing.Down r) = codes "down"
 standing_word (standing.Rung x) = blow_word x.blow
 
+-- the round in which the box fell or rings
 abbrev pub round_of : {K : Type 0} → Standing K → Option RoundNumber
 round_of standing.Up = None
 round_of (standing.Down r) = Some r
 round_of (standing.Rung x) = Some x.round
 
+-- the proposal on which it rings
 abbrev pub proposal_of : {K : Type 0} → Standing K → Option K
 proposal_of standing.Up = None
 proposal_of (standing.Down r) = None

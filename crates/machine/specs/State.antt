@@ -13,10 +13,11 @@ pub record State (K : Type 0) : Type 0 where
   pub closed : ℕ
   pub row : List (PlaceState K)
 
--- a box is down or falling; how many of the company are
+-- a box is down or falling
 abbrev pub is_gone : WireState → ℕ → Bool
 is_gone m q = not (member m.up q) || is_some (m.lost q)
 
+-- how many boxes of the company are
 abbrev pub gone_count : WireState → ℕ
 gone_count m = count (is_gone m) m.n
 
@@ -24,7 +25,7 @@ gone_count m = count (is_gone m) m.n
 abbrev pub hears_on : WireState → (p q : ℕ) → Bool
 hears_on m p q = member m.up q && not (is_lost m p q)
 
--- it rings
+-- the box there rings
 abbrev pub has_rung : {K : Type 0} → PlaceState K → Bool
 has_rung (at_rest b) = false
 has_rung (down r) = false

@@ -4,9 +4,9 @@ ghost use Rattle.machine.specs.MachineLaws.{RowIsDetermined, MakeIsAccepted, Bad
 use boxes::boxes_laws;
 use proposals::Proposal;
 
-/// A row is no more than what stands in it. A ringing is made where all is as it must be; a row that is refused is so first, by every call on a
-/// ringing; and one that is not refused has in each place what may stand there. In a round of such a row, in which no box rings, nothing is
-/// refused: no posting, no fetching, no frame that is heard and no tally.
+/// A row is no more than what stands in it. A ringing is made where all is as it must be; a row that is refused is so first, by every call
+/// on a ringing; and one that is not refused has in each place what may stand there. In a round of such a row, in which no box rings,
+/// nothing is refused: no posting, no fetching, no frame that is heard and no tally.
 pub fn machine_laws<K: Proposal>()
     ensures determined { RowIsDetermined K }
     ensures made { MakeIsAccepted K }

@@ -1,7 +1,7 @@
-// A row has a place for each box of a company. What stands at a place, and what is told of it.
+// What stands at the place of a box, and what is told of it.
 ghost use Rattle.std.specs.Prelude.{◌≡◌};
-ghost use Rattle.boxes.specs.BoxRounds.{outcome};
 ghost use Rattle.std.specs.List.{list_any};
+ghost use Rattle.boxes.specs.BoxRounds.{outcome};
 ghost use Rattle.machine.specs.declared.place.Place.TheVariants as place;
 ghost use Rattle.machine.specs.Places.{place_state, state_of_outcome, standing_of, standing_word, round_of, proposal_of, rung_of};
 ghost use Rattle.machine.specs.State.{has_rung};
@@ -9,44 +9,54 @@ ghost use Rattle.machine.specs.State.{has_rung};
 use boxes::{Closed, Resting};
 use sets::RoundNumber;
 
-// How far the blow of a box that rings has come: no strike order was drawn yet; one was, and is out; it was struck; it was missed.
+/// How far the blow of a box that rings has come.
 #[derive(Clone, Copy, Debug, PartialEq, Eq)]
 pub enum Blow {
+    /// No strike order was drawn yet.
     Undrawn,
+    /// A strike order was drawn, and is out.
     Out,
+    /// The order was given back as struck.
     Struck,
+    /// The order was given back as missed.
     Missed,
 }
 
-// A box that rings: in which round, on which proposal, and how far its blow has come.
+/// How a box rings.
 #[derive(Clone, Copy, Debug, PartialEq, Eq)]
 pub struct Rung<K> {
+    /// The round in which it rings.
     pub round: RoundNumber,
+    /// The proposal on which it rings.
     pub proposal: K,
+    /// How far its blow has come.
     pub blow: Blow,
 }
 
-// What stands at the place of a box.
+/// What stands at the place of a box. A row has a place for each box of a company, by number.
 #[derive(Debug, PartialEq, Eq)]
 #[derive_where(Clone, Copy; K: Copy)]
 pub enum Place<K> {
-    // The box, at rest between two rounds.
+    /// The box, at rest between two rounds.
     Resting(Resting<K>),
-    // The box is down since this round.
+    /// The box is down since this round.
     Down(RoundNumber),
+    /// The box rings.
     Rung(Rung<K>),
 }
 
-// What is told of a box.
+/// What is told of a box.
 #[derive(Clone, Copy, Debug, PartialEq, Eq)]
 pub enum Standing<K> {
-    // It is up, falling or not, and does not ring.
+    /// It is up, falling or not, and does not ring.
     Up,
+    /// It is down since this round.
     Down(RoundNumber),
+    /// It rings.
     Rung(Rung<K>),
 }
 
-// What stands at a place before there is a ringing.
+/// What stands at a place before there is a ringing: down since round 0.
 impl<K> Default for Place<K> {
     ghost is_default = { λ x. x ≡ place.Down (record { 0 = 0 }) };
 
@@ -56,6 +66,7 @@ impl<K> Default for Place<K> {
 }
 
 impl<K: Copy> Place<K> {
+    /// What is told of the box: one at rest is up.
     pub fn standing(self) -> Standing<K>
         ensures { result ≡ standing_of (place_state self) }
     {
@@ -66,7 +77,7 @@ impl<K: Copy> Place<K> {
         }
     }
 
-    // How the box rings, if it does.
+    /// How the box rings, if it does.
     pub fn rung(&self) -> Option<Rung<K>>
         ensures { result ≡ rung_of (place_state self.now) }
     {
@@ -76,7 +87,7 @@ impl<K: Copy> Place<K> {
         }
     }
 
-    // Whether the box rings.
+    /// Whether the box rings.
     pub fn has_rung(&self) -> bool
         ensures { result ≡ has_rung (place_state self.now) }
     {
@@ -84,14 +95,14 @@ impl<K: Copy> Place<K> {
     }
 }
 
-// Whether a box of the row rings.
+/// Whether a box of the row rings. An empty row has none.
 pub fn is_over<K: Copy>(row: &[Place<K>]) -> bool
     ensures { result ≡ list_any (λ x. has_rung (place_state x)) row.now }
 {
     row.iter().any(Place::has_rung)
 }
 
-// What stands for a box that has closed a round.
+/// What stands for a box that has closed a round: it rests, or rings with no strike order drawn.
 impl<K> From<Closed<K>> for Place<K> {
     ghost from_gives = { λ c r. place_state r ≡ state_of_outcome (outcome c) };
 
@@ -108,7 +119,7 @@ impl<K> From<Closed<K>> for Place<K> {
 }
 
 impl<K: Copy> Standing<K> {
-    // The word for it.
+    /// The word for it: `up`, `down`, or by its blow `rings`, `out`, `struck` or `missed`.
     pub fn word(self) -> &'static str
         ensures { result.now ≡ standing_word self }
     {
@@ -119,7 +130,7 @@ impl<K: Copy> Standing<K> {
         }
     }
 
-    // The round in which the box fell or rings.
+    /// The round in which the box fell or rings; of one that is up none.
     pub fn round(self) -> Option<RoundNumber>
         ensures { result ≡ round_of self }
     {
@@ -130,7 +141,7 @@ impl<K: Copy> Standing<K> {
         }
     }
 
-    // The proposal on which the box rings.
+    /// The proposal on which the box rings, if it does.
     pub fn proposal(self) -> Option<K>
         ensures { result ≡ proposal_of self }
     {
@@ -144,6 +155,7 @@ impl<K: Copy> Standing<K> {
 impl Blow {
     ghost use Rattle.machine.specs.Places.{blow_word};
 
+    // The word for a box whose blow has come so far.
     fn word(self) -> &'static str
         ensures { result.now ≡ blow_word self }
     {
