@@ -1,9 +1,10 @@
--- All that ring do so at once and on one proposal. Assumes nothing.
+-- All that ring do so at once and on one proposal.
 use Rattle.std.proofs.Common.{◌≡◌, ℕ, zero, suc, ◌+◌, ◌-◌, ◌<◌, ◌≤◌, ◌==◌, true, false, ◌⊎◌, is_some, inl, inr, ap, ◌∙◌, arith}
 use Rattle.std.proofs.lemmas.Bool.{cases_lt, cases_order, eqb-true, eq-eqb}
 use Rattle.std.proofs.lemmas.Bool.Decides.{nat_tests}
 use Rattle.base.proofs.CountLemmas.{one_fails}
 use Rattle.proposals.specs.Orders.{goes_before}
+use Rattle.proposals.specs.Kinds.{Kind, IsOrder}
 use Rattle.rule.specs.Falls.{closes, waste}
 use Rattle.rule.specs.Histories.{History, IsAllowed, ringing_round}
 use Rattle.rule.specs.RuleValues.{smallest, best_horizon, rings, estimate}
@@ -11,7 +12,6 @@ use Rattle.rule.specs.RuleLaws.{RingsIn, IsQuietBefore, SomeRemains, CompanyRing
 use Rattle.rule.proofs.RoundLemmas.{open_fell}
 use Rattle.rule.proofs.WasteLemmas.{waste_few, waste_up, waste_last, rings_when, rings_then, peak, peak_clean, clean_by, lacking_few}
 use Rattle.rule.proofs.EstimateLemmas.{Agree, agree_clean, agree_from, estimate_proposed, estimate_leads}
-use Rattle.proposals.specs.Kinds.{Kind, IsOrder}
 
 module _ {K : Type 0} (h : History K) (allowed : IsAllowed h) where
   -- round r is t + 1 - D for the waste of the rounds up to it

@@ -1,14 +1,15 @@
--- A box that hears what the rule sends holds what the rule says. Assumes nothing.
+-- A box that hears what the rule sends holds what the rule says.
 use Rattle.std.proofs.Common.{◌≡◌, ℕ, zero, suc, ◌+◌, ◌-◌, ◌<◌, ◌≤◌, min, Bool, true, false, cond, not, ◌&&◌, ◌||◌, eqb, leb, ltb, [], ◌∷◌, is_some, Some, None, Ok, unwrap_or, sym, refl, ap, ◌∙◌, add-one, arith}
 use Rattle.std.proofs.lemmas.Bool.Decides.{nat_tests}
 use Rattle.base.specs.declared.refusal.Refusal.TheVariants as refusal
 use Rattle.base.specs.Refusals.{unless}
-use Rattle.sets.specs.declared.set.BoxSet.{BoxSet}
 use Rattle.base.specs.Counts.{any, count}
+use Rattle.base.proofs.CountLemmas.{any_ext, any-and, none_any, count_le}
+use Rattle.sets.specs.declared.set.BoxSet.{BoxSet}
 use Rattle.sets.specs.Masks.{member, set_of}
 use Rattle.sets.proofs.BitLemmas.{mask_below, set_ext}
 use Rattle.sets.proofs.MemberLemmas.{company_member, company_count}
-use Rattle.base.proofs.CountLemmas.{any_ext, any-and, none_any, count_le}
+use Rattle.proposals.specs.Kinds.{Kind}
 use Rattle.proposals.proofs.ForemostLemmas.{foremost_ext}
 use Rattle.frames.specs.declared.frame.Frame.{Frame}
 use Rattle.boxes.specs.declared.states.Resting.{Resting}
@@ -25,7 +26,6 @@ use Rattle.rule.specs.HeldValues.{held_after, frame_after, heard_after, hears_of
 use Rattle.rule.proofs.RoundLemmas.{closed_before, closing_heard, heard_closed, missing_open}
 use Rattle.rule.proofs.CleanRound.{missed_missing, known_found}
 use Rattle.rule.proofs.WasteLemmas.{best_down, best_late, lacking_few}
-use Rattle.proposals.specs.Kinds.{Kind}
 
 module _ {K : Type 0} (h : History K) (kind : Kind K) (allowed : IsAllowed h) where
   few : h.n ≤ 32
@@ -66,7 +66,8 @@ module _ {K : Type 0} (h : History K) (kind : Kind K) (allowed : IsAllowed h) wh
 
   -- ---- a box at rest
 
-  pub rests_there : (p r : ℕ) → p < h.n → closes h.falls p r ≡ true → ((k : ℕ) → k ≤ r → rule.rings h p k ≡ false) → (b : Resting K) × (b.held ≡ held_after h kind p r)
+  pub rests_there : (p r : ℕ) → p < h.n → closes h.falls p r ≡ true → ((k : ℕ) → k ≤ r → rule.rings h p k ≡ false)
+      → (b : Resting K) × (b.held ≡ held_after h kind p r)
   unfolding held_after rule.best_horizon rule.smallest
   rests_there p r l c quiet =
       let limits = allowed.size in
@@ -137,7 +138,8 @@ module _ {K : Type 0} (h : History K) (kind : Kind K) (allowed : IsAllowed h) wh
     estimate_in-when true d f e = refl
     estimate_in-when false d f e = absurd (grind arith)
 
-    first_is : unwrap_or (first_estimate (held_after h kind p r) (heard_after h kind p r) kind) (held_after h kind p r).estimate ≡ estimate h kind p (suc r)
+    first_is : unwrap_or (first_estimate (held_after h kind p r) (heard_after h kind p r) kind) (held_after h kind p r).estimate
+        ≡ estimate h kind p (suc r)
     unfolding held_after heard_after estimate
     first_is = ap (λ o. unwrap_or o (estimate h kind p r)) (foremost_ext kind.leads
         (λ q. is_some (heard_after h kind p r q)) (hears h.falls p (suc r)) _ (λ q. estimate h kind q r) h.n
@@ -153,7 +155,8 @@ module _ {K : Type 0} (h : History K) (kind : Kind K) (allowed : IsAllowed h) wh
           let a = heard_closed h.falls p r q c in
           grind arith
 
-      tally : (ltb h.t (count (member (missing_set p (suc r))) 32) || any (λ i. member known_set i && not (member (missing_set p (suc r)) i)) 32) ≡ false
+      tally : (ltb h.t (count (member (missing_set p (suc r))) 32)
+          || any (λ i. member known_set i && not (member (missing_set p (suc r)) i)) 32) ≡ false
       tally =
           let a = missed_few p (suc r) l c in
           let b = none_any (λ i. member known_set i && not (member (missing_set p (suc r)) i)) 32 (λ i _.
@@ -176,7 +179,8 @@ module _ {K : Type 0} (h : History K) (kind : Kind K) (allowed : IsAllowed h) wh
             horizon = record { 0 = best };
           }))
 
-      closes_so : close_with (held_after h kind p r) (missing_set p (suc r)) known_set (estimate h kind p (suc r)) ≡ Ok (outcome_of h kind p (suc r))
+      closes_so : close_with (held_after h kind p r) (missing_set p (suc r)) known_set (estimate h kind p (suc r))
+          ≡ Ok (outcome_of h kind p (suc r))
       unfolding close_with outcome_of held_after
       closes_so = λ j. unless ((tally j, refusal.Tally) ∷ []) (end (best_is j) (add-one r j))
 

@@ -1,22 +1,23 @@
--- What is still to come does not count. Assumes nothing.
+-- What is still to come does not count.
 use Rattle.std.proofs.Common.{◌≡◌, ℕ, zero, suc, ◌+◌, ◌-◌, ◌≤◌, max, min, true, false, cond, not, ◌&&◌, ◌||◌, eqb, ltb, ◌⊎◌, Some, None, Option, unwrap_or, sym, refl, ap, ◌∙◌, inl, inr, arith}
 use Rattle.std.proofs.lemmas.Bool.{cases_Bool, eqb-true}
 use Rattle.std.proofs.lemmas.Bool.Decides.{nat_tests}
 use Rattle.base.specs.Counts.{any, count}
 use Rattle.sets.specs.Masks.{set_of}
 use Rattle.proposals.specs.Orders.{foremost}
+use Rattle.proposals.specs.Kinds.{Kind}
 use Rattle.rule.specs.declared.falls.Fall.{Fall}
 use Rattle.rule.specs.Falls.{Falls, with_fall, fall_so_far, past_falls, fell_before, fell_in, fell_unheard, closes, hears, found_missing, waste}
 use Rattle.rule.specs.Histories.{History, as_of}
 use Rattle.rule.specs.RuleValues.{missing_after, known_missing, smallest, best_horizon, estimate}
 use Rattle.rule.specs.HeldValues.{held_after}
 use Rattle.rule.specs.RuleLaws.{OnlyPastCounts, FallToComeCountsNot}
-use Rattle.proposals.specs.Kinds.{Kind}
 
 -- ---- one box
 
 -- what holds of no fall as of one still to come, holds of the fall so far
-same_so_far : {X : Type 0} (g : Option Fall → X) (s : ℕ) (o : Option Fall) → (fell_before o (suc s) ≡ false → g None ≡ g o) → g (fall_so_far s o) ≡ g o
+same_so_far : {X : Type 0} (g : Option Fall → X) (s : ℕ) (o : Option Fall) → (fell_before o (suc s) ≡ false → g None ≡ g o)
+    → g (fall_so_far s o) ≡ g o
 same_so_far g s o f = by (cases_Bool (fell_before o (suc s)))
   where
     by : (fell_before o (suc s) ≡ true) ⊎ (fell_before o (suc s) ≡ false) → g (fall_so_far s o) ≡ g o
@@ -24,7 +25,8 @@ same_so_far g s o f = by (cases_Bool (fell_before o (suc s)))
     by (inr e) = ap (λ b. g (cond b o None)) e ∙ f e
 
 module _ (s r : ℕ) (l : r ≤ s) where
-  to_come : (o : Option Fall) (p : ℕ) → fell_before o (suc s) ≡ false → (fell_before o r ≡ false) × (fell_in o r ≡ false) × (fell_unheard o r p ≡ false)
+  to_come : (o : Option Fall) (p : ℕ) → fell_before o (suc s) ≡ false
+      → (fell_before o r ≡ false) × (fell_in o r ≡ false) × (fell_unheard o r p ≡ false)
   to_come None p e = (refl, refl, refl)
   to_come (Some f) p e = (grind (arith, nat_tests), grind (arith, nat_tests), grind (arith, nat_tests))
 

@@ -1,4 +1,4 @@
--- Who closes a round, who hears whom in it, who is found missing. Assumes nothing.
+-- Who closes a round, who hears whom in it, who is found missing.
 use Rattle.std.proofs.Common.{◌≡◌, ℕ, suc, ◌<◌, ◌≤◌, true, false, not, ◌&&◌, ◌||◌, eqb, is_some, Some, None, Option, refl, ap, ◌∙◌, arith}
 use Rattle.std.proofs.Math.Decide.{le_ind}
 use Rattle.std.proofs.lemmas.Bool.Decides.{nat_tests}
@@ -88,7 +88,8 @@ module _ (falls : Falls) where
       grind arith
 
   -- a box that closes a round does not hear in it who fell before, nor who fell in it unheard by the box
-  pub fell_not_heard : (p r q : ℕ) → closes falls p r ≡ true → (fell_before (falls q) r || fell_unheard (falls q) r p) ≡ true → hears falls p r q ≡ false
+  pub fell_not_heard : (p r q : ℕ) → closes falls p r ≡ true → (fell_before (falls q) r || fell_unheard (falls q) r p) ≡ true
+      → hears falls p r q ≡ false
   unfolding hears
   fell_not_heard p r q c e =
       let a = before_open q r in

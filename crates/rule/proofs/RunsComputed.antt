@@ -1,4 +1,4 @@
--- The worked runs, by computation. Assumes nothing.
+-- The worked runs, by computation.
 use Rattle.std.proofs.Common.{◌≡◌, ℕ, ◌≤◌, false, is_some, refl, lit≤}
 use Rattle.base.specs.Counts.{any, count}
 use Rattle.sets.specs.Masks.{bit, mask_of}
@@ -8,10 +8,12 @@ use Rattle.rule.specs.Histories.{IsAllowed}
 use Rattle.rule.specs.RuleValues.{missing_after, known_missing, smallest, best_horizon, estimate}
 use Rattle.rule.specs.RunExamples.{four, two, one_falls, two_at_once, two_unheard, one_after_another, two_heard, chain, other_falls, WorkedRuns, WorkedRounds, NearlyRightFails}
 
-four_allowed : (falls : Falls) (closed : ℕ) → any (λ q. fell_before (falls q) 1) 4 ≡ false → count (λ q. is_some (falls q)) 4 ≤ 2 → IsAllowed (four falls closed)
+four_allowed : (falls : Falls) (closed : ℕ) → any (λ q. fell_before (falls q) 1) 4 ≡ false → count (λ q. is_some (falls q)) 4 ≤ 2
+    → IsAllowed (four falls closed)
 four_allowed falls closed dated few = record { size = refl; dated = dated; few = few }
 
-two_allowed : (falls : Falls) (closed : ℕ) → any (λ q. fell_before (falls q) 1) 2 ≡ false → count (λ q. is_some (falls q)) 2 ≤ 1 → IsAllowed (two falls closed)
+two_allowed : (falls : Falls) (closed : ℕ) → any (λ q. fell_before (falls q) 1) 2 ≡ false → count (λ q. is_some (falls q)) 2 ≤ 1
+    → IsAllowed (two falls closed)
 two_allowed falls closed dated few = record { size = refl; dated = dated; few = few }
 
 pub runs : WorkedRuns

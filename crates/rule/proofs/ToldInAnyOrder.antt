@@ -1,10 +1,11 @@
--- A box that is told the frames of those it hears, in any order, has heard what the rule says. Assumes nothing.
+-- A box that is told the frames of those it hears, in any order, has heard what the rule says.
+use Rattle.std.specs.List.{find}
 use Rattle.std.proofs.Common.{◌≡◌, ℕ, suc, ◌<◌, Bool, true, false, cond, eqb, ◌⊎◌, List, Contains, Some, None, Ok, sym, refl, ap, ◌∙◌, inl, inr, ⊎_elim, arith}
 use Rattle.std.proofs.lemmas.Bool.{both_ways, cases_Bool, eqb-true}
 use Rattle.std.proofs.lemmas.Bool.Decides.{nat_tests}
-use Rattle.std.specs.List.{find}
-use Rattle.frames.specs.declared.frame.Frame.{Frame}
 use Rattle.base.specs.Results.{map_fault}
+use Rattle.proposals.specs.Kinds.{Kind}
+use Rattle.frames.specs.declared.frame.Frame.{Frame}
 use Rattle.boxes.specs.declared.states.Resting.{Resting}
 use Rattle.boxes.specs.BoxRounds.{box_refusal, open_notes, on_close}
 use Rattle.boxes.specs.ByFrames.{is_from, heard_frames, frames_in, notes_after, close_by_frames}
@@ -15,9 +16,9 @@ use Rattle.rule.specs.Histories.{History, IsAllowed}
 use Rattle.rule.specs.HeldValues.{held_after, frame_after, heard_after, outcome_of, hears_of_company, AreHeard}
 use Rattle.rule.proofs.RoundLemmas.{hears_itself}
 use Rattle.rule.proofs.BoxFollowsRule.{is_admitted, follows}
-use Rattle.proposals.specs.Kinds.{Kind}
 
-module _ {K : Type 0} (h : History K) (kind : Kind K) (allowed : IsAllowed h) (p r : ℕ) (l : p < h.n) (c : closes h.falls p (suc r) ≡ true) where
+module _ {K : Type 0} (h : History K) (kind : Kind K) (allowed : IsAllowed h) (p r : ℕ) (l : p < h.n)
+    (c : closes h.falls p (suc r) ≡ true) where
   sender_is : (q : ℕ) → (frame_after h kind q r).sender.0 ≡ q
   unfolding held_after
   sender_is q = refl
@@ -28,10 +29,12 @@ module _ {K : Type 0} (h : History K) (kind : Kind K) (allowed : IsAllowed h) (p
 
   module _ (came : List (Frame K)) (are : AreHeard h kind p r came) where
     -- a frame that came from q is what q sends, and p hears q
-    came_from : (q : ℕ) (f : Frame K) → Contains came f → is_from (held_after h kind p r) q f ≡ true → (f ≡ frame_after h kind q r) × (hears_of_company h p (suc r) q ≡ true)
+    came_from : (q : ℕ) (f : Frame K) → Contains came f → is_from (held_after h kind p r) q f ≡ true
+        → (f ≡ frame_after h kind q r) × (hears_of_company h p (suc r) q ≡ true)
     came_from q f has is = by (are.1 f has)
       where
-        by : (x : ℕ) × (hears_of_company h p (suc r) x ≡ true) × (f ≡ frame_after h kind x r) → (f ≡ frame_after h kind q r) × (hears_of_company h p (suc r) q ≡ true)
+        by : (x : ℕ) × (hears_of_company h p (suc r) x ≡ true) × (f ≡ frame_after h kind x r)
+            → (f ≡ frame_after h kind q r) × (hears_of_company h p (suc r) q ≡ true)
         by (x, e, at) =
             let s : f.sender.0 ≡ x = ap (λ g. g.sender.0) at ∙ sender_is x in
             let same : x ≡ q = grind (arith, nat_tests) in
@@ -41,11 +44,13 @@ module _ {K : Type 0} (h : History K) (kind : Kind K) (allowed : IsAllowed h) (p
     of_none : (q : ℕ) → hears_of_company h p (suc r) q ≡ false → find (is_from (held_after h kind p r) q) came ≡ None
     of_none q off = find_none (is_from (held_after h kind p r) q) came (λ f has. by f has (cases_Bool (is_from (held_after h kind p r) q f)))
       where
-        by : (f : Frame K) → Contains came f → (is_from (held_after h kind p r) q f ≡ true) ⊎ (is_from (held_after h kind p r) q f ≡ false) → is_from (held_after h kind p r) q f ≡ false
+        by : (f : Frame K) → Contains came f → (is_from (held_after h kind p r) q f ≡ true) ⊎ (is_from (held_after h kind p r) q f ≡ false)
+            → is_from (held_after h kind p r) q f ≡ false
         by f has (inl is) = absurd (both_ways (hears_of_company h p (suc r) q) off (came_from q f has is).1)
         by f has (inr is) = is
 
-    of_heard : (q : ℕ) → hears_of_company h p (suc r) q ≡ true → (q ≡ p → ⊥) → find (is_from (held_after h kind p r) q) came ≡ Some (frame_after h kind q r)
+    of_heard : (q : ℕ) → hears_of_company h p (suc r) q ≡ true → (q ≡ p → ⊥)
+        → find (is_from (held_after h kind p r) q) came ≡ Some (frame_after h kind q r)
     of_heard q on other =
         let m : q < h.n = grind (arith, nat_tests) in
         let e : hears h.falls p (suc r) q ≡ true = grind arith in

@@ -1,4 +1,4 @@
--- How many are missing, the horizons that come of it, and the waste. Assumes nothing.
+-- How many are missing, the horizons that come of it, and the waste.
 use Rattle.std.proofs.Common.{◌≡◌, ℕ, zero, suc, ◌+◌, ◌<◌, ◌≤◌, true, false, ◌⊎◌, is_some, refl, ap, ◌∙◌, inl, inr, ⊎_elim, arith}
 use Rattle.std.proofs.Math.Decide.{le_ind}
 use Rattle.std.proofs.lemmas.Bool.{cases_lt}
@@ -71,7 +71,8 @@ module _ {K : Type 0} (h : History K) where
         grind (arith, nat_tests)
 
     -- after a clean round it is at most t + 1 less the excess there
-    best_clean : (p r k : ℕ) → p < h.n → closes h.falls p k ≡ true → suc r ≤ k → lacking (suc r) ≤ lacking r → best_horizon h p k + lacking r ≤ h.t + suc r
+    best_clean : (p r k : ℕ) → p < h.n → closes h.falls p k ≡ true → suc r ≤ k → lacking (suc r) ≤ lacking r
+        → best_horizon h p k + lacking r ≤ h.t + suc r
     unfolding best_horizon smallest
     best_clean p r k l c m e =
         let d = closed_from h.falls p (suc r) k m c in
@@ -101,7 +102,8 @@ module _ {K : Type 0} (h : History K) where
     peak zero = record { top = 0; under = omega arith; reached = omega (arith, lacking_none); next = inl (omega arith) }
     peak (suc k) = by (peak k) (cases_lt (lacking (suc k)) (suc k + waste h.falls h.n k))
       where
-        still : (q : Peak k) → lacking (suc k) < suc k + waste h.falls h.n k → (q.top ≡ k) ⊎ (lacking (suc q.top) ≤ lacking q.top) → lacking (suc q.top) ≤ lacking q.top
+        still : (q : Peak k) → lacking (suc k) < suc k + waste h.falls h.n k → (q.top ≡ k) ⊎ (lacking (suc q.top) ≤ lacking q.top)
+            → lacking (suc q.top) ≤ lacking q.top
         still q b (inl e) = let f : lacking (suc q.top) ≡ lacking (suc k) = ap (λ r. lacking (suc r)) e in omega (arith, q.reached)
         still q b (inr d) = d
 

@@ -1,7 +1,7 @@
--- Which boxes fall and when, and so who closes a round, who hears whom in it, and who is found missing. Assumes nothing.
+-- Which boxes fall and when, and so who closes a round, who hears whom in it, and who is found missing. To be believed for the promise.
 use Rattle.std.specs.Prelude.{ℕ, zero, suc, ◌-◌, max, Bool, false, if◌then◌else◌, not, ◌&&◌, ◌||◌, Some, None, Option, ◌==◌, nat_lt}
-use Rattle.sets.specs.declared.set.BoxSet.{BoxSet}
 use Rattle.base.specs.Counts.{any, count}
+use Rattle.sets.specs.declared.set.BoxSet.{BoxSet}
 use Rattle.sets.specs.Masks.{member}
 use Rattle.rule.specs.declared.falls.Fall.{Fall}
 
@@ -9,10 +9,11 @@ use Rattle.rule.specs.declared.falls.Fall.{Fall}
 abbrev pub Falls : Type 0
 Falls = ℕ → Option Fall
 
--- nobody falls; and box p falls besides, in round r, with s for its lost set
+-- nobody falls
 abbrev pub no_falls : Falls
 no_falls q = None
 
+-- box p falls besides, in round r, with s for its lost set
 abbrev pub with_fall : ℕ → ℕ → BoxSet → Falls → Falls
 with_fall r p s falls q = if q == p then Some (record { round = record { 0 = r }; lost = s }) else falls q
 

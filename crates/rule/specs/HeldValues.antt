@@ -1,6 +1,7 @@
--- What a box holds, sends and hears where it follows the rule. Assumes nothing.
+-- What a box holds, sends and hears where it follows the rule. To be believed for the promise.
 use Rattle.std.specs.Prelude.{◌≡◌, ℕ, zero, suc, Bool, true, if◌then◌else◌, not, ◌&&◌, ◌⊎◌, List, [], ◌∷◌, ◌++◌, ◌==◌, Contains, Some, None, nat_lt}
 use Rattle.sets.specs.Masks.{set_of}
+use Rattle.proposals.specs.Kinds.{Kind}
 use Rattle.frames.specs.declared.frame.Frame.{Frame}
 use Rattle.boxes.specs.declared.states.Held.{Held}
 use Rattle.boxes.specs.Boxes.{frame_of}
@@ -10,7 +11,6 @@ use Rattle.rule.specs.Falls.{hears}
 use Rattle.rule.specs.Histories.{History}
 use Rattle.rule.specs.RuleValues as rule
 use Rattle.rule.specs.RuleValues.{missing_after, best_horizon, estimate}
-use Rattle.proposals.specs.Kinds.{Kind}
 
 -- box q is of the company, and box p hears it in round r
 abbrev pub hears_of_company : {K : Type 0} → History K → ℕ → ℕ → ℕ → Bool
@@ -44,7 +44,8 @@ module _ {K : Type 0} (h : History K) (kind : Kind K) where
   -- what the other boxes below m that p hears in round r + 1 send in it, by number
   unfoldable pub frames_heard : ℕ → ℕ → ℕ → List (Frame K)
   frames_heard p r zero = []
-  frames_heard p r (suc m) = frames_heard p r m ++ (if hears_of_company h p (suc r) m && not (m == p) then frame_after m r ∷ [] else [])
+  frames_heard p r (suc m) =
+      frames_heard p r m ++ (if hears_of_company h p (suc r) m && not (m == p) then frame_after m r ∷ [] else [])
 
   -- among some frames are those of all other boxes that p hears in round r + 1, and no others but its own
   abbrev pub AreHeard : ℕ → ℕ → List (Frame K) → Type 0

@@ -1,7 +1,7 @@
--- A history: all that the rule goes by. Assumes nothing.
+-- A history: all that the rule goes by. To be believed for the promise.
 use Rattle.std.specs.Prelude.{◌≡◌, ℕ, ◌+◌, ◌-◌, ◌≤◌, true, false, is_some}
-use Rattle.sets.specs.Companies.{is_company}
 use Rattle.base.specs.Counts.{any, count}
+use Rattle.sets.specs.Companies.{is_company}
 use Rattle.rule.specs.Falls.{Falls, fell_before, past_falls, waste}
 
 -- a company of n boxes, of which t may fall; what each proposed, of each its fall if it fell, and how many rounds are closed. What stands

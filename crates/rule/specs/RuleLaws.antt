@@ -1,8 +1,10 @@
--- What falls mean; that all ring at once, in every history; that a box follows the rule; that what is to come does not count. Assumes nothing.
+-- What falls mean; that all ring at once, in every history; that a box follows the rule; that what is to come does not count.
+-- To be believed for the promise.
 use Rattle.std.specs.Prelude.{◌≡◌, ℕ, suc, ◌+◌, ◌<◌, ◌≤◌, true, false, not, ◌==◌, List, map, Some, None, Ok, nat_lt}
 use Rattle.sets.specs.declared.set.BoxSet.{BoxSet}
 use Rattle.sets.specs.Masks.{member}
 use Rattle.proposals.specs.Orders.{goes_before}
+use Rattle.proposals.specs.Kinds.{Kind}
 use Rattle.frames.specs.Frames.{frame_bytes}
 use Rattle.boxes.specs.declared.states.Resting.{Resting}
 use Rattle.boxes.specs.Boxes.{new_box}
@@ -13,14 +15,13 @@ use Rattle.rule.specs.Falls.{Falls, with_fall, past_falls, closes, hears, waste}
 use Rattle.rule.specs.Histories.{History, IsAllowed, ringing_round, as_of}
 use Rattle.rule.specs.RuleValues.{rings, estimate}
 use Rattle.rule.specs.HeldValues.{held_after, frame_after, heard_after, outcome_of, frames_heard, AreHeard}
-use Rattle.proposals.specs.Kinds.{Kind}
 
 -- a box that does not fall closes every round and is heard in it by all
 abbrev pub NoFallMeans : Type 0
 NoFallMeans = (falls : Falls) (p q r : ℕ) → falls q ≡ None → (closes falls q r ≡ true) × (hears falls p r q ≡ true)
 
--- one that falls closes the rounds before that of its fall; others hear it in these, in that of its fall if they are not in its lost set, and
--- not in later ones
+-- one that falls closes the rounds before that of its fall; others hear it in these, in that of its fall if they are not in its lost set,
+-- and not in later ones
 abbrev pub FallMeans : Type 0
 FallMeans = (falls : Falls) (p q r : ℕ) (f : Fall) → falls q ≡ Some f → (q ≡ p → ⊥)
     → (closes falls q r ≡ nat_lt r f.round.0)
@@ -68,7 +69,8 @@ module _ {K : Type 0} (h : History K) where
 
     -- and no ringing box proposed one that goes before it
     abbrev pub RingsOnFirst : Type 0
-    RingsOnFirst = (p q : ℕ) → RingsIn p h.closed → RingsIn q h.closed → goes_before kind.leads (h.proposals q) (estimate h kind p h.closed) ≡ false
+    RingsOnFirst = (p q : ℕ) → RingsIn p h.closed → RingsIn q h.closed
+        → goes_before kind.leads (h.proposals q) (estimate h kind p h.closed) ≡ false
 
     -- the whole of it
     abbrev pub Agreement : Type 0
@@ -83,11 +85,13 @@ module _ {K : Type 0} (h : History K) (kind : Kind K) where
 
   -- where it has not rung up to round r, the rule's values after it are those of a box at rest: they keep what every box keeps
   abbrev pub BoxRests : Type 0
-  BoxRests = IsAllowed h → (p r : ℕ) → p < h.n → closes h.falls p r ≡ true → ((k : ℕ) → k ≤ r → rings h p k ≡ false) → (b : Resting K) × (b.held ≡ held_after h kind p r)
+  BoxRests = IsAllowed h → (p r : ℕ) → p < h.n → closes h.falls p r ≡ true → ((k : ℕ) → k ≤ r → rings h p k ≡ false)
+      → (b : Resting K) × (b.held ≡ held_after h kind p r)
 
   -- it may hear what each other box that it hears in the next round sends
   abbrev pub BoxAdmits : Type 0
-  BoxAdmits = IsAllowed h → (p q r : ℕ) → p < h.n → q < h.n → closes h.falls p (suc r) ≡ true → hears h.falls p (suc r) q ≡ true → (q ≡ p → ⊥)
+  BoxAdmits = IsAllowed h → (p q r : ℕ) → p < h.n → q < h.n → closes h.falls p (suc r) ≡ true
+      → hears h.falls p (suc r) q ≡ true → (q ≡ p → ⊥)
       → admits (held_after h kind p r) (frame_after h kind q r) ≡ true
 
   -- and from the frames that it hears it closes that round to the rule's values, and rings exactly if the rule says so
@@ -105,9 +109,11 @@ module _ {K : Type 0} (h : History K) (kind : Kind K) where
   -- and so if it is told what those boxes compose, one after another
   abbrev pub BoxFollowsSent : Type 0
   BoxFollowsSent = IsAllowed h → (p r : ℕ) → p < h.n → closes h.falls p (suc r) ≡ true → (b : Resting K) → b.held ≡ held_after h kind p r
-      → on_close b.held (notes_after kind b.held (open_notes b.held) (map (frame_bytes kind) (frames_heard h kind p r h.n))) ≡ Ok (outcome_of h kind p (suc r))
+      → on_close b.held (notes_after kind b.held (open_notes b.held) (map (frame_bytes kind) (frames_heard h kind p r h.n)))
+      ≡ Ok (outcome_of h kind p (suc r))
 
-  -- what is still to come does not count: who closed a round, who was heard in it, the waste and the values after it are by the falls up to then
+  -- what is still to come does not count: who closed a round, who was heard in it, the waste and the values after it are by the falls up to
+  -- then
   abbrev pub OnlyPastCounts : Type 0
   OnlyPastCounts = (s r p q : ℕ) → r ≤ s
       → (closes (past_falls s h.falls) p r ≡ closes h.falls p r)
@@ -117,4 +123,5 @@ module _ {K : Type 0} (h : History K) (kind : Kind K) where
 
 -- and a box that falls in a round to come, where it had no fall, leaves the falls up to then as they are
 abbrev pub FallToComeCountsNot : Type 0
-FallToComeCountsNot = (falls : Falls) (s r p : ℕ) (lost : BoxSet) → falls p ≡ None → s < r → past_falls s (with_fall r p lost falls) ≡ past_falls s falls
+FallToComeCountsNot = (falls : Falls) (s r p : ℕ) (lost : BoxSet) → falls p ≡ None → s < r
+    → past_falls s (with_fall r p lost falls) ≡ past_falls s falls

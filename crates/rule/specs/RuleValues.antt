@@ -1,10 +1,10 @@
--- What the rule gives each box in each round, from who hears whom. Assumes nothing.
+-- What the rule gives each box in each round, from who hears whom. To be believed for the promise.
 use Rattle.std.specs.Prelude.{ℕ, zero, suc, ◌+◌, ◌-◌, min, Bool, false, not, ◌&&◌, ◌==◌, unwrap_or}
 use Rattle.base.specs.Counts.{any, count}
 use Rattle.proposals.specs.Orders.{foremost}
+use Rattle.proposals.specs.Kinds.{Kind}
 use Rattle.rule.specs.Falls.{hears}
 use Rattle.rule.specs.Histories.{History}
-use Rattle.proposals.specs.Kinds.{Kind}
 
 -- the smallest of a number and those that f gives the rounds 1 to r
 unfoldable pub smallest : ℕ → (ℕ → ℕ) → ℕ → ℕ
@@ -38,4 +38,5 @@ module _ {K : Type 0} (h : History K) where
   -- its estimate after round r: of the estimates of those that it heard, its own among them, the one that goes first
   unfoldable pub estimate : Kind K → ℕ → ℕ → K
   estimate kind p zero = h.proposals p
-  estimate kind p (suc r) = unwrap_or (foremost kind.leads (hears h.falls p (suc r)) (λ q. estimate kind q r) h.n) (estimate kind p r)
+  estimate kind p (suc r) =
+      unwrap_or (foremost kind.leads (hears h.falls p (suc r)) (λ q. estimate kind q r) h.n) (estimate kind p r)

@@ -1,8 +1,8 @@
--- Worked runs by the rule, and rules that are nearly right with a run that breaks each. Assumes nothing.
+-- Worked runs by the rule, and rules that are nearly right with a run that breaks each. To be believed for the examples of the rule.
 use Rattle.std.specs.Prelude.{◌≡◌, ℕ, ◌+◌, ◌-◌, ◌≤◌, Bool, true, false, not, ◌&&◌, ◌||◌, List, [], ◌∷◌, map, slice_index_or, ◌==◌, nat_lt}
 use Rattle.std.proofs.Common.{lit≤}
-use Rattle.sets.specs.declared.set.BoxSet.{BoxSet}
 use Rattle.base.specs.Counts.{any, count}
+use Rattle.sets.specs.declared.set.BoxSet.{BoxSet}
 use Rattle.sets.specs.Masks.{set_of}
 use Rattle.proposals.specs.declared.values.Piece.{Piece}
 use Rattle.proposals.specs.Pieces.{piece_kind}
@@ -13,6 +13,7 @@ use Rattle.rule.specs.RuleValues.{missing_after, known_missing, horizon, smalles
 
 -- ---- companies
 
+-- a piece by its number
 abbrev piece : (x : ℕ) → x ≤ 16383 → Piece
 piece x most = record { number = x; most = most }
 
@@ -32,8 +33,15 @@ four falls closed = record {
 
 -- two boxes with the pieces 30 and 20, of which one may fall, after some rounds
 abbrev pub two : Falls → ℕ → History Piece
-two falls closed = record { n = 2; t = 1; proposals = proposal_at (piece 30 (lit≤ tt) ∷ piece 20 (lit≤ tt) ∷ []); falls = falls; closed = closed }
+two falls closed = record {
+  n = 2;
+  t = 1;
+  proposals = proposal_at (piece 30 (lit≤ tt) ∷ piece 20 (lit≤ tt) ∷ []);
+  falls = falls;
+  closed = closed;
+}
 
+-- a number is in a list
 abbrev is_among : ℕ → List ℕ → Bool
 is_among i [] = false
 is_among i (x ∷ xs) = i == x || is_among i xs
@@ -78,12 +86,14 @@ other_falls r = with_fall r 1 (boxes (0 ∷ [])) no_falls
 
 -- ---- when a company rings
 
--- the boxes that close the last round, and those that ring in it on piece x
+-- the boxes that close the last round
 abbrev pub closers : History Piece → BoxSet
 closers h = set_of (λ p. nat_lt p h.n && closes h.falls p h.closed)
 
+-- those that ring in it on piece x
 abbrev pub ringers : History Piece → ℕ → BoxSet
-ringers h x = set_of (λ p. nat_lt p h.n && (closes h.falls p h.closed && (rings h p h.closed && (estimate h piece_kind p h.closed).number == x)))
+ringers h x = set_of (λ p.
+    nat_lt p h.n && (closes h.falls p h.closed && (rings h p h.closed && (estimate h piece_kind p h.closed).number == x)))
 
 -- no box rings in an earlier round that it closes
 abbrev pub silent_before : History Piece → Bool
@@ -91,8 +101,10 @@ silent_before h = not (any (λ r. any (λ p. closes h.falls p r && rings h p r) 
 
 -- these boxes close the last round, all of them ring in it on piece x, nobody before, and it is round t + 1 - D
 abbrev pub RingOn : History Piece → List ℕ → ℕ → Type 0
-RingOn h who x = IsAllowed h × (closers h ≡ boxes who) × (ringers h x ≡ boxes who) × (silent_before h ≡ true) × (ringing_round h ≡ h.closed)
+RingOn h who x =
+    IsAllowed h × (closers h ≡ boxes who) × (ringers h x ≡ boxes who) × (silent_before h ≡ true) × (ringing_round h ≡ h.closed)
 
+-- ten runs
 abbrev pub WorkedRuns : Type 0
 WorkedRuns =
     (RingOn (four no_falls 3) (0 ∷ 1 ∷ 2 ∷ 3 ∷ []) 10)
@@ -108,13 +120,15 @@ WorkedRuns =
 
 -- ---- how it comes about
 
--- the boxes found missing in round r; those missed by box p in it, and known missing to it
+-- the boxes found missing in round r
 abbrev pub found_boxes : Falls → ℕ → BoxSet
 found_boxes falls r = set_of (λ q. nat_lt q 4 && found_missing falls 4 r q)
 
+-- those missed by box p in it
 abbrev pub missed_by : Falls → ℕ → ℕ → BoxSet
 missed_by falls p r = set_of (λ q. nat_lt q 4 && missing_after (four falls r) p r q)
 
+-- those known missing to it
 abbrev pub known_by : Falls → ℕ → ℕ → BoxSet
 known_by falls p r = set_of (λ q. nat_lt q 4 && known_missing (four falls r) p r q)
 
@@ -130,19 +144,24 @@ horizons falls p = map (horizon (four falls 3) p) (1 ∷ 2 ∷ 3 ∷ [])
 abbrev pub estimates : Falls → ℕ → List ℕ → List ℕ
 estimates falls r = map (λ p. (estimate (four falls r) piece_kind p r).number)
 
+-- what the boxes hold in some of these runs, round by round
 abbrev pub WorkedRounds : Type 0
 WorkedRounds =
     -- box 0 alone misses box 2 in round 1, and in round 2 all know it
     (missed_by one_falls 0 1 ≡ boxes (2 ∷ [])) × (missed_by one_falls 1 1 ≡ boxes []) × (missed_by one_falls 3 1 ≡ boxes [])
-    × (known_by one_falls 0 1 ≡ boxes []) × (known_by one_falls 0 2 ≡ boxes (2 ∷ [])) × (known_by one_falls 1 2 ≡ boxes (2 ∷ [])) × (known_by one_falls 3 2 ≡ boxes (2 ∷ []))
+    × (known_by one_falls 0 1 ≡ boxes []) × (known_by one_falls 0 2 ≡ boxes (2 ∷ [])) × (known_by one_falls 1 2 ≡ boxes (2 ∷ []))
+    × (known_by one_falls 3 2 ≡ boxes (2 ∷ []))
     × (estimates one_falls 1 (0 ∷ 1 ∷ 3 ∷ []) ≡ 20 ∷ 10 ∷ 10 ∷ []) × (estimates one_falls 2 (0 ∷ 1 ∷ 3 ∷ []) ≡ 10 ∷ 10 ∷ 10 ∷ [])
     -- box 1 learns of piece 10 in round 2 from box 3, which alone had it, and box 0 in round 3
     × (missed_by chain 0 2 ≡ boxes (2 ∷ 3 ∷ [])) × (missed_by chain 1 2 ≡ boxes (2 ∷ []))
-    × (estimates chain 1 (0 ∷ 1 ∷ 3 ∷ []) ≡ 20 ∷ 20 ∷ 10 ∷ []) × (estimates chain 2 (0 ∷ 1 ∷ []) ≡ 20 ∷ 10 ∷ []) × (estimates chain 3 (0 ∷ 1 ∷ []) ≡ 10 ∷ 10 ∷ [])
+    × (estimates chain 1 (0 ∷ 1 ∷ 3 ∷ []) ≡ 20 ∷ 20 ∷ 10 ∷ []) × (estimates chain 2 (0 ∷ 1 ∷ []) ≡ 20 ∷ 10 ∷ [])
+    × (estimates chain 3 (0 ∷ 1 ∷ []) ≡ 10 ∷ 10 ∷ [])
     -- who falls in a round is found missing in it if a box that closes it did not hear it
-    × (closers (four two_at_once 1) ≡ boxes (0 ∷ 1 ∷ [])) × (found_boxes two_at_once 1 ≡ boxes (2 ∷ 3 ∷ [])) × (wastes two_at_once ≡ 0 ∷ 1 ∷ 1 ∷ 1 ∷ [])
+    × (closers (four two_at_once 1) ≡ boxes (0 ∷ 1 ∷ [])) × (found_boxes two_at_once 1 ≡ boxes (2 ∷ 3 ∷ []))
+    × (wastes two_at_once ≡ 0 ∷ 1 ∷ 1 ∷ 1 ∷ [])
     -- where none of these closes the round, only in the next
-    × (closers (four two_heard 1) ≡ boxes (0 ∷ 1 ∷ [])) × (found_boxes two_heard 1 ≡ boxes []) × (found_boxes two_heard 2 ≡ boxes (2 ∷ 3 ∷ [])) × (wastes two_heard ≡ 0 ∷ 0 ∷ 0 ∷ 0 ∷ [])
+    × (closers (four two_heard 1) ≡ boxes (0 ∷ 1 ∷ [])) × (found_boxes two_heard 1 ≡ boxes [])
+    × (found_boxes two_heard 2 ≡ boxes (2 ∷ 3 ∷ [])) × (wastes two_heard ≡ 0 ∷ 0 ∷ 0 ∷ 0 ∷ [])
 
 -- ---- nearly right
 
@@ -162,6 +181,7 @@ rings_by other h p = smallest (h.t + 1) (other h p) h.closed == h.closed
 abbrev pub silent_by_last : History Piece → Bool
 silent_by_last h = not (any (λ r. any (λ p. closes h.falls p r && horizon h p r == r) h.n) (h.closed + 1))
 
+-- a run that breaks each
 abbrev pub NearlyRightFails : Type 0
 NearlyRightFails =
     -- box 0 rings and box 1 does not

@@ -6,8 +6,9 @@ ghost use Rattle.rule.specs.RuleLaws.{NoFallMeans, FallMeans, Agreement, Company
 use boxes::boxes_laws;
 use proposals::Proposal;
 
-/// What falls mean for who closes a round and who is heard in it. For every history that keeps the limits: all boxes that ring do so in
-/// one round, which is t + 1 - D, and on one proposal; such a round comes, and some box closes every round. What is still to come does not count.
+/// What falls mean for who closes a round and who is heard in it. For every history that keeps the limits: all boxes that ring do so in one
+/// round, which is t + 1 - D, where D is the waste of the rounds, and on one proposal; such a round comes, and some box closes every round.
+/// What is still to come does not count.
 pub fn rule_laws<K: Proposal>()
     ensures stands { NoFallMeans }
     ensures falls { FallMeans }
@@ -16,8 +17,7 @@ pub fn rule_laws<K: Proposal>()
     ensures remains { (h : History K) → IsAllowed h → SomeRemains h }
     ensures past { (h : History K) → OnlyPastCounts h K.kind }
     ensures coming { FallToComeCountsNot }
-{
-}
+{}
 
 /// A box of the crate `boxes` follows the rule, for every history that keeps the limits: a new one holds the rule's values, and while a box has
 /// not rung there is one at rest that holds them; told the frames of the boxes that it hears in a round, and no others, it closes the

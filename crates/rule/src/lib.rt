@@ -1,5 +1,5 @@
-// The rule by which the boxes ring: who hears whom where boxes fall, what each then holds, that all ring at once, and that a box of the
-// crate `boxes` follows it.
+//! The rule by which the boxes ring: who hears whom where boxes fall, what each then holds, that all ring at once, and that a box of the
+//! crate `boxes` follows it.
 #![tactic(auto)]
 
 mod falls;
