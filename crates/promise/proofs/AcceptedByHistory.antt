@@ -1,12 +1,14 @@
--- Which rounds and falls are accepted, and who rings, by the history. Assumes nothing.
-use Rattle.std.proofs.Common.{◌≡◌, ℕ, suc, ◌<◌, Bool, true, false, cond, not, ◌&&◌, leb, ltb, ◌⊎◌, List, is_some, Some, None, Option, is_ok, sym, refl, ap, ◌∙◌, inl, inr, arith}
+-- Which rounds and falls are accepted, and who rings, by the history.
 use Rattle.std.specs.List.{slice_get}
+use Rattle.std.proofs.Common.{◌≡◌, ℕ, suc, ◌<◌, Bool, true, false, cond, not, ◌&&◌, leb, ltb, ◌⊎◌, List, is_some, Some, None, Option, is_ok, sym, refl, ap, ◌∙◌, inl, inr, arith}
 use Rattle.std.proofs.lemmas.Bool.{cases_Bool, both_ways}
 use Rattle.std.proofs.lemmas.Option.{slice_get_within}
 use Rattle.std.proofs.lemmas.Bool.Decides.{nat_tests}
+use Rattle.base.proofs.CountLemmas.{any_none, any_has}
+use Rattle.base.proofs.NumberedLemmas.{list_none, none_list}
 use Rattle.sets.specs.declared.box_number.BoxNumber.{BoxNumber}
 use Rattle.sets.specs.declared.set.BoxSet.{BoxSet}
-use Rattle.base.proofs.CountLemmas.{any_none, any_has}
+use Rattle.proposals.specs.Kinds.{Kind}
 use Rattle.frames.specs.Frames.{longest_frame}
 use Rattle.wire.specs.WireState.{on_fall as wire_on_fall}
 use Rattle.rule.specs.Falls.{fell_before, closes}
@@ -19,11 +21,9 @@ use Rattle.machine.specs.State.{State, is_gone, has_rung}
 use Rattle.machine.specs.RowCheck.{bad_row, is_over}
 use Rattle.machine.specs.FallCall.{on_fall}
 use Rattle.machine.specs.RoundCall.{on_round}
-use Rattle.base.proofs.NumberedLemmas.{list_none, none_list}
 use Rattle.promise.specs.StateByHistory.{place_by, row_by, wire_by, state_by}
 use Rattle.promise.specs.PromiseLaws.{somebody_rings, may_fall}
 use Rattle.promise.proofs.StateByPlace.{at_place, row_length, gone_is, gone_counted, row_good, fallen_stands, resting_stands, rings_stands}
-use Rattle.proposals.specs.Kinds.{Kind}
 
 rung_same : {K : Type 0} (x y : Rung K) → rung x ≡ rung y → x ≡ y
 rung_same x y e = cc
@@ -39,7 +39,8 @@ module _ {K : Type 0} (kind : Kind K) (unopened : ℕ → Option (List ℕ)) (h 
   pub rung_is : (p : ℕ) → has_rung (place_by kind h p) ≡ (closes h.falls p h.closed && rule.rings h p h.closed)
   rung_is p = by (cases_Bool (closes h.falls p h.closed)) (cases_Bool (rule.rings h p h.closed))
     where
-      by : (closes h.falls p h.closed ≡ true) ⊎ (closes h.falls p h.closed ≡ false) → (rule.rings h p h.closed ≡ true) ⊎ (rule.rings h p h.closed ≡ false)
+      by : (closes h.falls p h.closed ≡ true) ⊎ (closes h.falls p h.closed ≡ false)
+          → (rule.rings h p h.closed ≡ true) ⊎ (rule.rings h p h.closed ≡ false)
           → has_rung (place_by kind h p) ≡ (closes h.falls p h.closed && rule.rings h p h.closed)
       by (inr c) r = let f = fallen_stands kind h allowed.size p c in ap has_rung f.3 ∙ (grind arith)
       by (inl c) (inl r) = ap has_rung (rings_stands kind h allowed.size unopened p c r) ∙ (grind arith)
@@ -50,7 +51,8 @@ module _ {K : Type 0} (kind : Kind K) (unopened : ℕ → Option (List ℕ)) (h 
   stands p l = at_place kind h allowed.size p ∙ ap (λ t. cond t (Some (place_by kind h p)) None) (let k : ltb p h.n ≡ true = grind (arith, nat_tests) in k)
 
   -- who rings does so in the last closed round on its estimate
-  pub rings_are : (p : ℕ) (x : Rung K) → slice_get s.row p ≡ Some (rung x) → (x.round.0 ≡ h.closed) × (x.proposal ≡ rule.estimate h kind p h.closed) × (x.blow ≡ blow.Undrawn)
+  pub rings_are : (p : ℕ) (x : Rung K) → slice_get s.row p ≡ Some (rung x)
+      → (x.round.0 ≡ h.closed) × (x.proposal ≡ rule.estimate h kind p h.closed) × (x.blow ≡ blow.Undrawn)
   rings_are p x at = by (cases_Bool (closes h.falls p h.closed)) (cases_Bool (rule.rings h p h.closed))
     where
       here : place_by kind h p ≡ rung x
@@ -60,7 +62,8 @@ module _ {K : Type 0} (kind : Kind K) (unopened : ℕ → Option (List ℕ)) (h 
           let e = stands p (omega arith) in
           cc
 
-      by : (closes h.falls p h.closed ≡ true) ⊎ (closes h.falls p h.closed ≡ false) → (rule.rings h p h.closed ≡ true) ⊎ (rule.rings h p h.closed ≡ false)
+      by : (closes h.falls p h.closed ≡ true) ⊎ (closes h.falls p h.closed ≡ false)
+          → (rule.rings h p h.closed ≡ true) ⊎ (rule.rings h p h.closed ≡ false)
           → (x.round.0 ≡ h.closed) × (x.proposal ≡ rule.estimate h kind p h.closed) × (x.blow ≡ blow.Undrawn)
       by (inr c) r = absurd (let f = fallen_stands kind h allowed.size p c in let e = f.3 in grind (arith, here))
       by (inl c) (inr r) = absurd (let e = resting_stands kind h allowed.size unopened p c r in grind (arith, here))

@@ -1,7 +1,9 @@
--- Blows beside a history. Assumes nothing.
-use Rattle.std.proofs.Common.{◌≡◌, ℕ, Bool, true, false, cond, leb, ltb, List, Some, None, Option, option_map, refl, sym, ap, ◌∙◌}
+-- Blows beside a history.
 use Rattle.std.specs.List.{slice_get}
+use Rattle.std.proofs.Common.{◌≡◌, ℕ, Bool, true, false, cond, leb, ltb, List, Some, None, Option, option_map, refl, sym, ap, ◌∙◌}
+use Rattle.base.proofs.NumberedLemmas.{list_ext}
 use Rattle.sets.specs.Companies.{is_company}
+use Rattle.proposals.specs.Kinds.{Kind}
 use Rattle.boxes.specs.BoxRounds.{Outcome, rests, rings}
 use Rattle.rule.specs.declared.falls.Fall.{Fall}
 use Rattle.rule.specs.Histories.{History}
@@ -12,13 +14,11 @@ use Rattle.machine.specs.Places.{down, state_of_outcome, with_its_blow}
 use Rattle.machine.specs.State.{State}
 use Rattle.machine.specs.RowCheck.{is_over}
 use Rattle.machine.specs.OrderCalls.{with_blows}
-use Rattle.base.proofs.NumberedLemmas.{list_ext}
 use Rattle.machine.proofs.BlowsDoNotCount.{blown_at, over_same}
 use Rattle.promise.specs.CallLog.{Log}
 use Rattle.promise.specs.StateByHistory.{place_by_fall, place_by, state_by}
 use Rattle.promise.proofs.StateByPlace.{at_place}
 use Rattle.promise.proofs.KeptFromCallToCall.{Going, Kept}
-use Rattle.proposals.specs.Kinds.{Kind}
 
 module _ {K : Type 0} (kind : Kind K) (h : History K) (limits : is_company h.n h.t ≡ true) (unopened : ℕ → Option (List ℕ)) where
   abbrev base : State K
@@ -30,7 +30,8 @@ module _ {K : Type 0} (kind : Kind K) (h : History K) (limits : is_company h.n h
   stood_new None (rings r v) = refl
   stood_new (Some f) x = by (leb f.round.0 h.closed) x
     where
-      by : (t : Bool) (x : Outcome K) → with_its_blow blow.Undrawn (cond t (down f.round) (state_of_outcome x)) ≡ cond t (down f.round) (state_of_outcome x)
+      by : (t : Bool) (x : Outcome K)
+          → with_its_blow blow.Undrawn (cond t (down f.round) (state_of_outcome x)) ≡ cond t (down f.round) (state_of_outcome x)
       by true x = refl
       by false (rests b) = refl
       by false (rings r v) = refl
@@ -39,7 +40,8 @@ module _ {K : Type 0} (kind : Kind K) (h : History K) (limits : is_company h.n h
   pub undrawn_same : with_blows (λ p. blow.Undrawn) base ≡ base
   undrawn_same = λ j. record base { row = rows j }
     where
-      there : (p : ℕ) (t : Bool) → option_map (with_its_blow blow.Undrawn) (cond t (Some (place_by kind h p)) None) ≡ cond t (Some (place_by kind h p)) None
+      there : (p : ℕ) (t : Bool)
+          → option_map (with_its_blow blow.Undrawn) (cond t (Some (place_by kind h p)) None) ≡ cond t (Some (place_by kind h p)) None
       there p true = ap Some (stood_new (h.falls p) (outcome_of h kind p h.closed))
       there p false = refl
 
@@ -47,10 +49,13 @@ module _ {K : Type 0} (kind : Kind K) (h : History K) (limits : is_company h.n h
       rows = list_ext _ _ (λ p. blown_at (λ p. blow.Undrawn) base p ∙ ap (option_map (with_its_blow blow.Undrawn)) (at_place kind h limits p) ∙ there p (ltb p h.n) ∙ sym (at_place kind h limits p))
 
   -- what stands at a place
-  pub blown_place : (blows : ℕ → Blow) (p : ℕ) → slice_get (with_blows blows base).row p ≡ cond (ltb p h.n) (Some (with_its_blow (blows p) (place_by kind h p))) None
+  pub blown_place : (blows : ℕ → Blow) (p : ℕ)
+      → slice_get (with_blows blows base).row p ≡ cond (ltb p h.n) (Some (with_its_blow (blows p) (place_by kind h p))) None
   blown_place blows p = blown_at blows base p ∙ ap (option_map (with_its_blow (blows p))) (at_place kind h limits p) ∙ by (ltb p h.n)
     where
-      by : (t : Bool) → option_map (with_its_blow (blows p)) (cond t (Some (place_by kind h p)) None) ≡ cond t (Some (with_its_blow (blows p) (place_by kind h p))) None
+      by : (t : Bool)
+          → option_map (with_its_blow (blows p)) (cond t (Some (place_by kind h p)) None)
+          ≡ cond t (Some (with_its_blow (blows p) (place_by kind h p))) None
       by true = refl
       by false = refl
 

@@ -1,4 +1,4 @@
--- What a call answers. Assumes nothing.
+-- What a call answers.
 use Rattle.std.proofs.Common.{◌≡◌, Ok, Err, Result, is_ok, refl}
 use Rattle.base.specs.declared.refusal.Refusal.{Refusal}
 use Rattle.base.specs.Results.{answer}

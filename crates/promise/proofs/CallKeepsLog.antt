@@ -1,13 +1,15 @@
--- Each call, accepted or refused, keeps a ringing with its row to the course. Assumes nothing.
-use Rattle.std.proofs.Common.{◌≡◌, ℕ, suc, ◌<◌, Bool, true, false, cond, List, [], ◌∷◌, is_some, Ok, Err, Option, Result, is_ok, sym, refl, ap, ◌∙◌, subst, arith}
+-- Each call, accepted or refused, keeps a ringing with its row to the log.
 use Rattle.std.specs.Result.{result_map_both}
+use Rattle.std.proofs.Common.{◌≡◌, ℕ, suc, ◌<◌, Bool, true, false, cond, List, [], ◌∷◌, is_some, Ok, Err, Option, Result, is_ok, sym, refl, ap, ◌∙◌, subst, arith}
 use Rattle.std.proofs.lemmas.Bool.{both_ways}
 use Rattle.std.proofs.lemmas.Bool.Decides.{nat_tests}
 use Rattle.base.specs.declared.refusal.Refusal.{Refusal}
+use Rattle.base.specs.Results.{or_kept}
 use Rattle.sets.specs.declared.box_number.BoxNumber.{BoxNumber}
 use Rattle.sets.specs.declared.round_number.RoundNumber.{RoundNumber}
 use Rattle.sets.specs.declared.set.BoxSet.{BoxSet}
 use Rattle.sets.specs.Masks.{member}
+use Rattle.proposals.specs.Kinds.{Kind}
 use Rattle.wire.specs.WireState.{WireState, IsWellFormed, with_falling, on_fall as wire_on_fall}
 use Rattle.rule.specs.Falls.{with_fall}
 use Rattle.rule.specs.Histories.{History}
@@ -19,7 +21,6 @@ use Rattle.machine.specs.RowCheck.{is_over}
 use Rattle.machine.specs.FallCall.{on_fall}
 use Rattle.machine.specs.RoundCall.{on_round, state_after_round}
 use Rattle.machine.specs.OrderCalls.{with_blow, on_draw, state_after_draw, on_report}
-use Rattle.base.specs.Results.{or_kept}
 use Rattle.machine.proofs.BlowsDoNotCount.{blow_on, rung_over, was_drawn, was_reported}
 use Rattle.promise.specs.declared.request.Request.{Request}
 use Rattle.promise.specs.declared.request.Request.TheVariants as request
@@ -33,7 +34,6 @@ use Rattle.promise.proofs.BlowsBesideHistory.{kept, base_over, none_drawn, going
 use Rattle.promise.proofs.FallAccepted.{none_of, fall_kept}
 use Rattle.promise.proofs.RoundAccepted.{round_kept}
 use Rattle.promise.proofs.FirstState.{checked, made_so}
-use Rattle.proposals.specs.Kinds.{Kind}
 
 -- what was checked as a fall was accepted
 record Told {K : Type 0} (q : ℕ) (lost : BoxSet) (s then : State K) : Type 0 where
@@ -64,7 +64,8 @@ pub was_played : {K : Type 0} (kind : Kind K) (room : ℕ) (s then : State K) �
 unfolding on_round
 was_played kind room s then e = record { still = grind (arith, nat_tests); is = grind (arith, nat_tests) }
 
-module _ {K : Type 0} (kind : Kind K) (unopened : ℕ → Option (List ℕ)) (coming : FallToComeCountsNot) (only_past : (h : History K) → OnlyPastCounts h kind)
+module _ {K : Type 0} (kind : Kind K) (unopened : ℕ → Option (List ℕ)) (coming : FallToComeCountsNot)
+    (only_past : (h : History K) → OnlyPastCounts h kind)
     (follows : (h : History K) → BoxFollows h kind) where
   module _ (s : State K) (h : History K) (g : Going kind unopened s h) where
     abbrev by_history : State K
@@ -86,7 +87,8 @@ module _ {K : Type 0} (kind : Kind K) (unopened : ℕ → Option (List ℕ)) (co
 
   module _ (s : State K) (c : Log K) (k : Kept kind unopened s c) where
     -- where a box rings, a blow is one more beside the same history
-    blows : (b : Blow) (p : ℕ) (then : State K) → is_over s ≡ true → then ≡ with_blow b p s → Kept kind unopened then (record c { blows = blows_with b p c.blows })
+    blows : (b : Blow) (p : ℕ) (then : State K) → is_over s ≡ true → then ≡ with_blow b p s
+        → Kept kind unopened then (record c { blows = blows_with b p c.blows })
     blows b p then rings is = record {
       going = k.going;
       is = is ∙ ap (with_blow b p) k.is ∙ blow_on c.blows (state_by kind c.history unopened) b p;
@@ -138,11 +140,13 @@ module _ {K : Type 0} (kind : Kind K) (unopened : ℕ → Option (List ℕ)) (co
   all [] s c k = k
   all (a ∷ more) s c k = all more (state_after_call kind a s) (cond (is_ok (answer_to kind a s)) (with_call a c) c) (step s c k a)
 
--- so the course holds the state after every list of calls
-pub calls_kept : {K : Type 0} (kind : Kind K) → FallToComeCountsNot → ((h : History K) → OnlyPastCounts h kind) → ((h : History K) → BoxBegins h kind)
-    → ((h : History K) → BoxFollows h kind)
-    → (n t places : ℕ) (m : WireState) (proposals : List K) (s : State K) → IsWellFormed m → on_make n t m places proposals ≡ Ok s → (past_end : K) (calls : List Request)
-    → Kept kind m.posted (state_after kind calls s) (log_after calls (answers_to kind calls s) (undrawn_log (first_history n t proposals past_end)))
+-- so the log gives the state after every list of calls
+pub calls_kept : {K : Type 0} (kind : Kind K) → FallToComeCountsNot → ((h : History K) → OnlyPastCounts h kind)
+    → ((h : History K) → BoxBegins h kind) → ((h : History K) → BoxFollows h kind)
+    → (n t places : ℕ) (m : WireState) (proposals : List K) (s : State K) → IsWellFormed m → on_make n t m places proposals ≡ Ok s
+    → (past_end : K) (calls : List Request)
+    → Kept kind m.posted (state_after kind calls s)
+    (log_after calls (answers_to kind calls s) (undrawn_log (first_history n t proposals past_end)))
 calls_kept kind coming only_past begins follows n t places m proposals s formed made past_end calls =
     let h = first_history n t proposals past_end in
     all kind m.posted coming only_past follows calls s (undrawn_log h)

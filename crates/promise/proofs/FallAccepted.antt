@@ -1,12 +1,13 @@
--- A fall that is accepted. Assumes nothing.
-use Rattle.std.proofs.Common.{◌≡◌, ℕ, zero, suc, ◌<◌, ◌≤◌, Bool, true, false, not, ◌&&◌, ◌||◌, cond, eqb, leb, ltb, ◌⊎◌, List, map, is_some, Some, None, Option, sym, refl, ap, ◌∙◌, inl, inr, arith}
+-- A fall that is accepted.
 use Rattle.std.specs.List.{range_with_len}
+use Rattle.std.proofs.Common.{◌≡◌, ℕ, zero, suc, ◌<◌, ◌≤◌, Bool, true, false, not, ◌&&◌, ◌||◌, cond, eqb, leb, ltb, ◌⊎◌, List, map, is_some, Some, None, Option, sym, refl, ap, ◌∙◌, inl, inr, arith}
 use Rattle.std.proofs.lemmas.Bool.{cases_Bool, eqb-true}
 use Rattle.std.proofs.lemmas.Bool.Decides.{nat_tests}
-use Rattle.sets.specs.declared.set.BoxSet.{BoxSet}
 use Rattle.base.specs.Counts.{count}
-use Rattle.sets.specs.Masks.{member, set_of}
 use Rattle.base.proofs.CountLemmas.{any_none, none_any, count_ext, count_more}
+use Rattle.sets.specs.declared.set.BoxSet.{BoxSet}
+use Rattle.sets.specs.Masks.{member, set_of}
+use Rattle.proposals.specs.Kinds.{Kind}
 use Rattle.frames.specs.Frames.{frame_bytes}
 use Rattle.boxes.specs.Boxes.{frame_of}
 use Rattle.wire.specs.WireState.{with_falling}
@@ -22,14 +23,15 @@ use Rattle.promise.specs.StateByHistory.{lost_in, place_by_fall, place_by, row_b
 use Rattle.promise.proofs.StateByPlace.{lost_some, up_is, lost_is, gone_counted}
 use Rattle.promise.proofs.KeptFromCallToCall.{Going}
 use Rattle.promise.proofs.SamePast.{closes_same, held_same, rings_same, outcome_same}
-use Rattle.proposals.specs.Kinds.{Kind}
 
 pub none_of : {X : Type 0} (o : Option X) → is_some o ≡ false → o ≡ None
 none_of None e = refl
 none_of (Some x) e = absurd (grind arith)
 
-module _ {K : Type 0} (kind : Kind K) (unopened : ℕ → Option (List ℕ)) (coming : FallToComeCountsNot) (only_past : (h : History K) → OnlyPastCounts h kind)
-    (h : History K) (allowed : IsAllowed h) (quiet : IsQuietBefore h h.closed) (due : (q : ℕ) → is_some (h.falls q) ≡ fell_before (h.falls q) (suc (suc h.closed)))
+module _ {K : Type 0} (kind : Kind K) (unopened : ℕ → Option (List ℕ)) (coming : FallToComeCountsNot)
+    (only_past : (h : History K) → OnlyPastCounts h kind)
+    (h : History K) (allowed : IsAllowed h) (quiet : IsQuietBefore h h.closed)
+    (due : (q : ℕ) → is_some (h.falls q) ≡ fell_before (h.falls q) (suc (suc h.closed)))
     (q : ℕ) (lost : BoxSet) where
   abbrev s : State K
   s = state_by kind h unopened
@@ -67,7 +69,9 @@ module _ {K : Type 0} (kind : Kind K) (unopened : ℕ → Option (List ℕ)) (co
         own : eqb (suc h.closed) (suc h.closed) ≡ true
         own = grind (arith, nat_tests)
 
-        by : (t : Bool) → lost_in (suc h.closed) (cond t (Some (record { round = record { 0 = suc h.closed }; lost = lost })) (h.falls i)) ≡ cond t (Some lost) (lost_in (suc h.closed) (h.falls i))
+        by : (t : Bool)
+            → lost_in (suc h.closed) (cond t (Some (record { round = record { 0 = suc h.closed }; lost = lost })) (h.falls i))
+            ≡ cond t (Some lost) (lost_in (suc h.closed) (h.falls i))
         by true = ap (λ t. cond t (Some lost) None) own
         by false = refl
 
@@ -115,7 +119,8 @@ module _ {K : Type 0} (kind : Kind K) (unopened : ℕ → Option (List ℕ)) (co
         dated true o e = grind (arith, nat_tests)
         dated false o e = e
 
-        due_now : (t : Bool) (o : Option Fall) → is_some o ≡ fell_before o (suc (suc h.closed)) → is_some (cond t (Some fall_now) o) ≡ fell_before (cond t (Some fall_now) o) (suc (suc h.closed))
+        due_now : (t : Bool) (o : Option Fall) → is_some o ≡ fell_before o (suc (suc h.closed))
+            → is_some (cond t (Some fall_now) o) ≡ fell_before (cond t (Some fall_now) o) (suc (suc h.closed))
         due_now true o e = grind (arith, nat_tests)
         due_now false o e = e
 

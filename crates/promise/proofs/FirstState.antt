@@ -1,18 +1,20 @@
--- A ringing that was made: it is that of the history in which nothing has happened. Assumes nothing.
-use Rattle.std.proofs.Common.{◌≡◌, ℕ, ◌^◌, ◌<◌, ◌≤◌, Bool, true, false, ◌&&◌, cond, ltb, ◌⊎◌, List, [], ◌∷◌, length, subst, get_or, is_some, Some, None, Ok, Option, option_map, sym, refl, ap, ◌∙◌, inl, inr, not-suc-le-zero, arith}
+-- A ringing that was made: it is that of the history in which nothing has happened.
 use Rattle.std.specs.List.{slice_get}
+use Rattle.std.proofs.Common.{◌≡◌, ℕ, ◌^◌, ◌<◌, ◌≤◌, Bool, true, false, ◌&&◌, cond, ltb, ◌⊎◌, List, [], ◌∷◌, length, subst, get_or, is_some, Some, None, Ok, Option, option_map, sym, refl, ap, ◌∙◌, inl, inr, not-suc-le-zero, arith}
 use Rattle.std.proofs.lemmas.Bool.{cases_Bool}
 use Rattle.std.proofs.lemmas.Bool.Decides.{nat_tests}
 use Rattle.std.proofs.lemmas.Option.{slice_get-get_or, slice_get_past}
 use Rattle.base.specs.declared.refusal.Refusal.TheVariants as refusal
 use Rattle.base.specs.Refusals.{unless}
+use Rattle.base.specs.Counts.{any}
+use Rattle.base.proofs.CountLemmas.{any_none, none_any, count_none}
+use Rattle.base.proofs.NumberedLemmas.{list_ext, get-by_number}
 use Rattle.sets.specs.declared.set.BoxSet.{BoxSet}
 use Rattle.sets.specs.Companies.{is_company}
-use Rattle.base.specs.Counts.{any}
 use Rattle.sets.specs.Masks.{member, set_of}
 use Rattle.sets.proofs.BitLemmas.{bit_high}
-use Rattle.base.proofs.CountLemmas.{any_none, none_any, count_none}
 use Rattle.sets.proofs.MemberLemmas.{set_kept, member_below}
+use Rattle.proposals.specs.Kinds.{Kind}
 use Rattle.boxes.specs.Boxes.{first_held}
 use Rattle.wire.specs.WireState.{WireState, IsWellFormed}
 use Rattle.rule.specs.Falls.{no_falls, closes}
@@ -23,13 +25,11 @@ use Rattle.rule.specs.RuleLaws.{BoxBegins}
 use Rattle.machine.specs.Places.{at_rest}
 use Rattle.machine.specs.State.{State, is_gone}
 use Rattle.machine.specs.MakeCall.{first_row, on_make}
-use Rattle.base.proofs.NumberedLemmas.{list_ext, get-by_number}
 use Rattle.promise.specs.CallLog.{first_history}
 use Rattle.promise.specs.StateByHistory.{place_by, row_by, posted_by, wire_by}
 use Rattle.promise.proofs.StateByPlace.{at_place, resting_stands}
 use Rattle.promise.proofs.FallAccepted.{none_of}
 use Rattle.promise.proofs.KeptFromCallToCall.{Going}
-use Rattle.proposals.specs.Kinds.{Kind}
 
 made_of : {X : Type 0} (a b : Bool) (x y : X) → unless ((a, refusal.Company) ∷ (b, refusal.Stranger) ∷ []) x ≡ Ok y → x ≡ y
 made_of true b x y e = absurd (grind arith)
@@ -44,7 +44,8 @@ pub record Checked {K : Type 0} (n t places : ℕ) (m : WireState) (proposals : 
   pub none_gone : any (is_gone m) n ≡ false
   pub is : s ≡ record { wire = m; t = t; closed = 0; row = first_row n t proposals }
 
-module _ {K : Type 0} (n t places : ℕ) (m : WireState) (proposals : List K) (s : State K) (made : on_make n t m places proposals ≡ Ok s) where
+module _ {K : Type 0} (n t places : ℕ) (m : WireState) (proposals : List K) (s : State K)
+    (made : on_make n t m places proposals ≡ Ok s) where
   pub checked : Checked n t places m proposals s
   unfolding on_make
   checked = record {
@@ -55,7 +56,8 @@ module _ {K : Type 0} (n t places : ℕ) (m : WireState) (proposals : List K) (s
     is = grind (arith, nat_tests);
   }
 
-module _ {K : Type 0} (kind : Kind K) (begins : (h : History K) → BoxBegins h kind) (n t places : ℕ) (m : WireState) (formed : IsWellFormed m) (proposals : List K) (s : State K)
+module _ {K : Type 0} (kind : Kind K) (begins : (h : History K) → BoxBegins h kind) (n t places : ℕ) (m : WireState)
+    (formed : IsWellFormed m) (proposals : List K) (s : State K)
     (c : Checked n t places m proposals s) (past_end : K) where
   abbrev h : History K
   h = first_history n t proposals past_end
@@ -110,7 +112,9 @@ module _ {K : Type 0} (kind : Kind K) (begins : (h : History K) → BoxBegins h 
   row_first = list_ext (first_row n t proposals) (row_by kind h) (λ p.
       get-by_number (λ p v. at_rest (first_held (record { 0 = p }) n t v)) proposals p ∙ by p (cases_Bool (ltb p n)) ∙ sym (at_place kind h c.size p))
     where
-      by : (p : ℕ) → (ltb p n ≡ true) ⊎ (ltb p n ≡ false) → option_map (λ v. at_rest (first_held (record { 0 = p }) n t v)) (slice_get proposals p) ≡ cond (ltb p n) (Some (place_by kind h p)) None
+      by : (p : ℕ) → (ltb p n ≡ true) ⊎ (ltb p n ≡ false)
+          → option_map (λ v. at_rest (first_held (record { 0 = p }) n t v)) (slice_get proposals p)
+          ≡ cond (ltb p n) (Some (place_by kind h p)) None
       by p (inl l) =
           let k : p < n = grind (arith, nat_tests) in
           ap (option_map (λ v. at_rest (first_held (record { 0 = p }) n t v))) (slice_get-get_or proposals p past_end (let g = c.given in omega arith))

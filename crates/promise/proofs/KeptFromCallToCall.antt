@@ -1,5 +1,6 @@
--- What is kept from call to call: a ringing with its row is that of its history and its blows. Assumes nothing.
+-- What is kept from call to call: a ringing with its row is that of its history and its blows.
 use Rattle.std.proofs.Common.{◌≡◌, ℕ, suc, false, List, is_some, Option}
+use Rattle.proposals.specs.Kinds.{Kind}
 use Rattle.rule.specs.Falls.{fell_before}
 use Rattle.rule.specs.Histories.{History, IsAllowed}
 use Rattle.rule.specs.RuleLaws.{IsQuietBefore}
@@ -9,7 +10,6 @@ use Rattle.machine.specs.RowCheck.{is_over}
 use Rattle.machine.specs.OrderCalls.{with_blows}
 use Rattle.promise.specs.CallLog.{Log}
 use Rattle.promise.specs.StateByHistory.{state_by}
-use Rattle.proposals.specs.Kinds.{Kind}
 
 -- of a history: besides, no box falls later than in the round to come
 pub record Going {K : Type 0} (kind : Kind K) (unopened : ℕ → Option (List ℕ)) (s : State K) (h : History K) : Type 0 where
@@ -18,7 +18,7 @@ pub record Going {K : Type 0} (kind : Kind K) (unopened : ℕ → Option (List �
   pub due : (q : ℕ) → is_some (h.falls q) ≡ fell_before (h.falls q) (suc (suc h.closed))
   pub is : s ≡ state_by kind h unopened
 
--- of a course: while nobody rings no order is drawn
+-- of a log: while nobody rings no order is drawn
 pub record Kept {K : Type 0} (kind : Kind K) (unopened : ℕ → Option (List ℕ)) (s : State K) (c : Log K) : Type 0 where
   pub going : Going kind unopened (state_by kind c.history unopened) c.history
   pub is : s ≡ with_blows c.blows (state_by kind c.history unopened)

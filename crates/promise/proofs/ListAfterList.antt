@@ -1,10 +1,10 @@
--- One list of calls after another. Assumes nothing.
+-- One list of calls after another.
 use Rattle.std.proofs.Common.{◌≡◌, cond, List, [], ◌∷◌, ◌++◌, is_ok, refl}
+use Rattle.proposals.specs.Kinds.{Kind}
 use Rattle.machine.specs.State.{State}
 use Rattle.promise.specs.declared.request.Request.{Request}
 use Rattle.promise.specs.CallLog.{Answer, Log, with_call, log_after}
 use Rattle.promise.specs.CallSteps.{answer_to, state_after_call, state_after, answers_to}
-use Rattle.proposals.specs.Kinds.{Kind}
 
 module _ {K : Type 0} (kind : Kind K) where
   pub after-append : (xs ys : List Request) (s : State K) → state_after kind (xs ++ ys) s ≡ state_after kind ys (state_after kind xs s)

@@ -1,12 +1,13 @@
--- All that are told to ring do so at once. Assumes nothing.
-use Rattle.std.proofs.Common.{◌≡◌, ℕ, ◌<◌, Bool, true, false, cond, ◌&&◌, eqb, leb, ltb, ◌⊎◌, List, Some, None, Ok, Option, option_map, sym, refl, ap, ◌∙◌, subst, inl, inr, arith}
+-- All that are told to ring do so at once.
 use Rattle.std.specs.List.{slice_get}
 use Rattle.std.specs.Option.{ok_or}
+use Rattle.std.proofs.Common.{◌≡◌, ℕ, ◌<◌, Bool, true, false, cond, ◌&&◌, eqb, leb, ltb, ◌⊎◌, List, Some, None, Ok, Option, option_map, sym, refl, ap, ◌∙◌, subst, inl, inr, arith}
 use Rattle.std.proofs.lemmas.Bool.{cases_Bool, cases_eq, eqb-true}
 use Rattle.std.proofs.lemmas.Bool.Decides.{nat_tests}
 use Rattle.base.specs.declared.refusal.Refusal.TheVariants.{Stranger}
 use Rattle.sets.specs.declared.box_number.BoxNumber.{BoxNumber}
 use Rattle.proposals.specs.Orders.{goes_before}
+use Rattle.proposals.specs.Kinds.{Kind}
 use Rattle.rule.specs.Falls.{closes}
 use Rattle.rule.specs.Histories.{History, ringing_round}
 use Rattle.rule.specs.RuleValues as rule
@@ -25,17 +26,19 @@ use Rattle.promise.specs.StateByHistory.{place_by, state_by}
 use Rattle.promise.specs.Promise.{ToldRinging, tells_ringing, has_closed, OneRing}
 use Rattle.promise.proofs.KeptFromCallToCall.{Going, Kept}
 use Rattle.promise.proofs.ToldByLog.{row_good, at, rings_at, rungs}
-use Rattle.proposals.specs.Kinds.{Kind}
 
 -- what is told to ring stands there so
-told_place : {K : Type 0} (o : Option (PlaceState K)) (x : Rung K) → ok_or (option_map standing_of o) Stranger ≡ Ok (standing.Rung x) → o ≡ Some (rung x)
+told_place : {K : Type 0} (o : Option (PlaceState K)) (x : Rung K) → ok_or (option_map standing_of o) Stranger ≡ Ok (standing.Rung x)
+    → o ≡ Some (rung x)
 told_place None x e = absurd (grind arith)
 told_place (Some (at_rest b)) x e = absurd (grind arith)
 told_place (Some (down r)) x e = absurd (grind arith)
 told_place (Some (rung y)) x e = cc
 
-module _ {K : Type 0} (kind : Kind K) (unopened : ℕ → Option (List ℕ)) (h : History K) (g : Going kind unopened (state_by kind h unopened) h)
-    (blows : ℕ → Blow) (agree : Agreement h kind) (begins : BoxBegins h kind) (rests : BoxRests h kind) (follows : BoxFollowsSent h kind) where
+module _ {K : Type 0} (kind : Kind K) (unopened : ℕ → Option (List ℕ)) (h : History K)
+    (g : Going kind unopened (state_by kind h unopened) h)
+    (blows : ℕ → Blow) (agree : Agreement h kind) (begins : BoxBegins h kind) (rests : BoxRests h kind)
+    (follows : BoxFollowsSent h kind) where
   abbrev s : State K
   s = with_blows blows (state_by kind h unopened)
 
@@ -89,8 +92,10 @@ module _ {K : Type 0} (kind : Kind K) (unopened : ℕ → Option (List ℕ)) (h 
       begun : leb 1 (ringing_round h) ≡ true
       begun = let w = waste_few h g.allowed h.closed in grind (arith, nat_tests)
 
-      here : (p.0 < h.n) → (h.closed ≡ ringing_round h) ⊎ (h.closed ≡ ringing_round h → ⊥) → (closes h.falls p.0 h.closed ≡ true) ⊎ (closes h.falls p.0 h.closed ≡ false)
-          → (closes h.falls p.0 h.closed && rule.rings h p.0 h.closed) ≡ (leb 1 (ringing_round h) && leb (ringing_round h) h.closed && closes h.falls p.0 (ringing_round h))
+      here : (p.0 < h.n) → (h.closed ≡ ringing_round h) ⊎ (h.closed ≡ ringing_round h → ⊥)
+          → (closes h.falls p.0 h.closed ≡ true) ⊎ (closes h.falls p.0 h.closed ≡ false)
+          → (closes h.falls p.0 h.closed && rule.rings h p.0 h.closed)
+          ≡ (leb 1 (ringing_round h) && leb (ringing_round h) h.closed && closes h.falls p.0 (ringing_round h))
       here l (inl e) (inl c) =
           let r = (agree g.allowed).0 p.0 l c in
           let d : closes h.falls p.0 (ringing_round h) ≡ true = ap (closes h.falls p.0) (sym e) ∙ c in
@@ -104,13 +109,16 @@ module _ {K : Type 0} (kind : Kind K) (unopened : ℕ → Option (List ℕ)) (h 
           let late : leb (ringing_round h) h.closed ≡ false = grind (arith, nat_tests) in
           no c (let q : eqb h.closed (ringing_round h) ≡ false = grind (arith, nat_tests) in q) late
         where
-          no : (closes h.falls p.0 h.closed ≡ true) ⊎ (closes h.falls p.0 h.closed ≡ false) → eqb h.closed (ringing_round h) ≡ false → leb (ringing_round h) h.closed ≡ false
-              → (closes h.falls p.0 h.closed && rule.rings h p.0 h.closed) ≡ (leb 1 (ringing_round h) && leb (ringing_round h) h.closed && closes h.falls p.0 (ringing_round h))
+          no : (closes h.falls p.0 h.closed ≡ true) ⊎ (closes h.falls p.0 h.closed ≡ false) → eqb h.closed (ringing_round h) ≡ false
+              → leb (ringing_round h) h.closed ≡ false
+              → (closes h.falls p.0 h.closed && rule.rings h p.0 h.closed)
+              ≡ (leb 1 (ringing_round h) && leb (ringing_round h) h.closed && closes h.falls p.0 (ringing_round h))
           no (inl c) q late = let r = (agree g.allowed).0 p.0 l c ∙ q in grind arith
           no (inr c) q late = grind arith
 
       split : (t : Bool) → ltb p.0 h.n ≡ t
-          → tells_ringing (ok_or (option_map standing_of (cond t (Some (stands p.0)) None)) Stranger) ≡ (t && leb 1 (ringing_round h) && leb (ringing_round h) h.closed && closes h.falls p.0 (ringing_round h))
+          → tells_ringing (ok_or (option_map standing_of (cond t (Some (stands p.0)) None)) Stranger)
+          ≡ (t && leb 1 (ringing_round h) && leb (ringing_round h) h.closed && closes h.falls p.0 (ringing_round h))
       split false l = refl
       split true l =
           tells (stands p.0) ∙ rung_kept p.0 ∙ rings_at kind unopened h g blows p.0
@@ -131,7 +139,8 @@ module _ {K : Type 0} (kind : Kind K) (unopened : ℕ → Option (List ℕ)) (h 
   }
 
 pub rings_once : {K : Type 0} (kind : Kind K) (unopened : ℕ → Option (List ℕ)) (s : State K) (c : Log K)
-    → ((h : History K) → Agreement h kind) → ((h : History K) → BoxBegins h kind) → ((h : History K) → BoxRests h kind) → ((h : History K) → BoxFollowsSent h kind) → Kept kind unopened s c
+    → ((h : History K) → Agreement h kind) → ((h : History K) → BoxBegins h kind) → ((h : History K) → BoxRests h kind)
+    → ((h : History K) → BoxFollowsSent h kind) → Kept kind unopened s c
     → OneRing kind s c.history
 rings_once kind unopened s c agree begins rests follows k =
     subst (λ x. OneRing kind x c.history) (sym k.is)

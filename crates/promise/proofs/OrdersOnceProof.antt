@@ -1,13 +1,16 @@
--- Each strike order is handed out once and given back once, in any list of calls on any row. Assumes nothing.
-use Rattle.std.proofs.Common.{◌≡◌, ℕ, ◌+◌, ◌≤◌, Bool, true, false, cond, not, ◌&&◌, eqb, ◌⊎◌, List, [], ◌∷◌, Some, None, Ok, Err, Option, option_map, Result, is_some, sym, refl, ap, ◌∙◌, inl, inr, arith}
+-- Each strike order is handed out once and given back once, in any list of calls on any row.
 use Rattle.std.specs.List.{slice_get}
 use Rattle.std.specs.Result.{result_map_both}
+use Rattle.std.proofs.Common.{◌≡◌, ℕ, ◌+◌, ◌≤◌, Bool, true, false, cond, not, ◌&&◌, eqb, ◌⊎◌, List, [], ◌∷◌, Some, None, Ok, Err, Option, option_map, Result, is_some, sym, refl, ap, ◌∙◌, inl, inr, arith}
 use Rattle.std.proofs.lemmas.Bool.{cases_Bool, eqb-true}
 use Rattle.std.proofs.lemmas.Bool.Decides.{nat_tests}
 use Rattle.base.specs.declared.refusal.Refusal.{Refusal}
+use Rattle.base.specs.Results.{or_kept}
+use Rattle.base.proofs.NumberedLemmas.{get-by_number}
 use Rattle.sets.specs.declared.box_number.BoxNumber.{BoxNumber}
 use Rattle.sets.specs.declared.round_number.RoundNumber.{RoundNumber}
 use Rattle.sets.specs.declared.set.BoxSet.{BoxSet}
+use Rattle.proposals.specs.Kinds.{Kind}
 use Rattle.boxes.specs.Boxes.{first_held}
 use Rattle.boxes.specs.BoxRounds.{Outcome, rests, rings}
 use Rattle.boxes.specs.ByFrames.{outcome_by_frames}
@@ -20,8 +23,6 @@ use Rattle.machine.specs.MakeCall.{on_make}
 use Rattle.machine.specs.FallCall.{on_fall}
 use Rattle.machine.specs.RoundCall.{on_round, place_after, round_to_come, frames_heard_by}
 use Rattle.machine.specs.OrderCalls.{with_blow, on_draw, state_after_draw, is_out_in, on_report}
-use Rattle.base.specs.Results.{or_kept}
-use Rattle.base.proofs.NumberedLemmas.{get-by_number}
 use Rattle.machine.proofs.BlowsDoNotCount.{Undrawn, Out, was_drawn, was_reported}
 use Rattle.promise.specs.declared.request.Request.{Request}
 use Rattle.promise.specs.declared.request.Request.TheVariants as request
@@ -31,7 +32,6 @@ use Rattle.promise.specs.CallSteps.{done_answer, answer_to, state_after_call, an
 use Rattle.promise.specs.Promise.{is_accepted_as, count_accepted, draws, is_for, hands_out, gives_back, OrdersOnce}
 use Rattle.promise.proofs.FirstState.{checked}
 use Rattle.promise.proofs.CallKeepsLog.{was_played}
-use Rattle.proposals.specs.Kinds.{Kind}
 
 -- a box that rings has an order drawn; that of round k is out
 abbrev is_taken : {K : Type 0} → Option (PlaceState K) → Bool
@@ -46,13 +46,16 @@ outs k o = is_out_in (record { 0 = k }) o
 -- a call moves what stands at place p: what is handed out was not yet, and what is given back was out
 record Moves {K : Type 0} (p : ℕ) (c : Request) (a : Answer K) (o then : Option (PlaceState K)) : Type 0 where
   draw : cond (is_accepted_as (draws p) c a) 1 0 + cond (is_taken then) 0 1 ≤ cond (is_taken o) 0 1
-  back : (k : ℕ) → cond (is_accepted_as (gives_back p k) c a) 1 0 + cond (outs k then) 1 0 ≤ cond (is_accepted_as (hands_out p k) c a) 1 0 + cond (outs k o) 1 0
+  back : (k : ℕ) → cond (is_accepted_as (gives_back p k) c a) 1 0 + cond (outs k then) 1 0
+      ≤ cond (is_accepted_as (hands_out p k) c a) 1 0 + cond (outs k o) 1 0
 
 -- nothing moves
 abbrev Idle : {K : Type 0} → ℕ → Request → Answer K → Type 0
-Idle p c a = (is_accepted_as (draws p) c a ≡ false) × ((k : ℕ) → (is_accepted_as (gives_back p k) c a ≡ false) × (is_accepted_as (hands_out p k) c a ≡ false))
+Idle p c a = (is_accepted_as (draws p) c a ≡ false)
+    × ((k : ℕ) → (is_accepted_as (gives_back p k) c a ≡ false) × (is_accepted_as (hands_out p k) c a ≡ false))
 
-stays : {K : Type 0} (p : ℕ) (c : Request) (a : Answer K) (o then : Option (PlaceState K)) → is_taken then ≡ is_taken o → ((k : ℕ) → outs k then ≡ outs k o) → Idle p c a → Moves p c a o then
+stays : {K : Type 0} (p : ℕ) (c : Request) (a : Answer K) (o then : Option (PlaceState K)) → is_taken then ≡ is_taken o
+    → ((k : ℕ) → outs k then ≡ outs k o) → Idle p c a → Moves p c a o then
 stays p c a o then t u i = record { draw = grind (arith, i.0, t); back = λ k. let e = i.1 k in let f = u k in grind (arith, e.0, e.1, f) }
 
 unmoved : {K : Type 0} (p : ℕ) (c : Request) (a : Answer K) (o : Option (PlaceState K)) → Idle p c a → Moves p c a o o
@@ -117,7 +120,8 @@ module _ {K : Type 0} (kind : Kind K) (s : State K) (p : ℕ) where
   -- ---- each call
 
   give : (b : Blow) (c : Request) (q : BoxNumber) (r : RoundNumber) → is_out b ≡ false → is_undrawn b ≡ false
-      → ((k : ℕ) → is_accepted_as {K = K} (gives_back p k) c (Ok reply.Done) ≡ (eqb q.0 p && eqb r.0 k)) → is_accepted_as {K = K} (draws p) c (Ok reply.Done) ≡ false
+      → ((k : ℕ) → is_accepted_as {K = K} (gives_back p k) c (Ok reply.Done) ≡ (eqb q.0 p && eqb r.0 k))
+      → is_accepted_as {K = K} (draws p) c (Ok reply.Done) ≡ false
       → ((k : ℕ) → is_accepted_as {K = K} (hands_out p k) c (Ok reply.Done) ≡ false)
       → (z : Result (State K) Refusal) → on_report b q r s ≡ z → Moves p c (done_answer z) o (place (or_kept s z))
   give b c q r in_hand taken gives no_draw no_hand (Err e) is = unmoved p c (Err e) o (refused K p c e)
@@ -216,7 +220,8 @@ none_out {K} n t places m proposals s made p k =
     by (Some v) = refl
 
 -- at most as many as were handed out are given back, and at most as many as were drawn are handed out
-for_one : {K : Type 0} (p k : ℕ) (c : Request) (a : Answer K) → cond (is_accepted_as (hands_out p k) c a) 1 0 ≤ cond (is_accepted_as (draws p) c a) 1 0
+for_one : {K : Type 0} (p k : ℕ) (c : Request) (a : Answer K)
+    → cond (is_accepted_as (hands_out p k) c a) 1 0 ≤ cond (is_accepted_as (draws p) c a) 1 0
 for_one p k c (Err e) = omega arith
 for_one p k c (Ok r) = by (draws p c r) (is_for k r)
   where
@@ -225,7 +230,8 @@ for_one p k c (Ok r) = by (draws p c r) (is_for k r)
     by true false = omega arith
     by false y = omega arith
 
-of_drawn : {K : Type 0} (p k : ℕ) (calls : List Request) (answers : List (Answer K)) → count_accepted (hands_out p k) calls answers ≤ count_accepted (draws p) calls answers
+of_drawn : {K : Type 0} (p k : ℕ) (calls : List Request) (answers : List (Answer K))
+    → count_accepted (hands_out p k) calls answers ≤ count_accepted (draws p) calls answers
 unfolding count_accepted
 of_drawn p k [] answers = omega arith
 of_drawn p k (c ∷ calls) [] = omega arith
@@ -245,5 +251,6 @@ orders_once kind n t places m proposals s made calls = record {
     drawn_once : (p : ℕ) → count_accepted (draws p) calls (answers_to kind calls s) ≤ 1
     drawn_once p = by p (once kind p calls s).0 (is_taken (slice_get s.row p))
 
-    back : (p k : ℕ) → count_accepted (gives_back p k) calls (answers_to kind calls s) ≤ count_accepted (hands_out p k) calls (answers_to kind calls s)
+    back : (p k : ℕ)
+        → count_accepted (gives_back p k) calls (answers_to kind calls s) ≤ count_accepted (hands_out p k) calls (answers_to kind calls s)
     back p k = let b = (once kind p calls s).1 k in let none = none_out n t places m proposals s made p k in grind (arith, b, none)

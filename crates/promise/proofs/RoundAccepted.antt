@@ -1,12 +1,15 @@
--- A round that is accepted. Assumes nothing.
-use Rattle.std.proofs.Common.{◌≡◌, ℕ, suc, ◌+◌, ◌<◌, ◌≤◌, Bool, true, false, not, ◌&&◌, cond, eqb, leb, ltb, ◌⊎◌, List, [], ◌∷◌, is_some, Some, None, Ok, Option, option_map, sym, refl, ap, ◌∙◌, inl, inr, add-one, arith}
+-- A round that is accepted.
 use Rattle.std.specs.List.{slice_get}
+use Rattle.std.proofs.Common.{◌≡◌, ℕ, suc, ◌+◌, ◌<◌, ◌≤◌, Bool, true, false, not, ◌&&◌, cond, eqb, leb, ltb, ◌⊎◌, List, [], ◌∷◌, is_some, Some, None, Ok, Option, option_map, sym, refl, ap, ◌∙◌, inl, inr, add-one, arith}
 use Rattle.std.proofs.lemmas.Bool.{cases_Bool, cases_eq, both_ways, eqb-true}
 use Rattle.std.proofs.lemmas.Bool.Decides.{nat_tests}
 use Rattle.base.specs.declared.refusal.Refusal.TheVariants as refusal
 use Rattle.base.specs.Refusals.{unless}
+use Rattle.base.specs.Numbered.{by_number}
+use Rattle.base.proofs.NumberedLemmas.{list_ext, get-by_number, list_none}
 use Rattle.sets.specs.Masks.{member}
 use Rattle.sets.proofs.BitLemmas.{set_ext}
+use Rattle.proposals.specs.Kinds.{Kind}
 use Rattle.frames.specs.Frames.{frame_bytes}
 use Rattle.boxes.specs.declared.states.Held.{Held}
 use Rattle.boxes.specs.Boxes.{frame_of}
@@ -21,20 +24,18 @@ use Rattle.rule.specs.HeldValues.{held_after, frame_after, outcome_of, hears_of_
 use Rattle.rule.specs.RuleLaws.{IsQuietBefore, BoxFollows, OnlyPastCounts}
 use Rattle.rule.proofs.RoundLemmas.{closed_before, fell_closes, fell_next, fell_once, unheard_open}
 use Rattle.machine.specs.Places.{PlaceState, at_rest, down, state_of_outcome}
-use Rattle.base.specs.Numbered.{by_number}
 use Rattle.machine.specs.State.{State, hears_on, has_rung}
 use Rattle.machine.specs.RoundCall.{frame_at, sent_frame, frames_heard_by, round_to_come, place_after, state_after_round}
 use Rattle.machine.specs.RowCheck.{is_over}
-use Rattle.base.proofs.NumberedLemmas.{list_ext, get-by_number, list_none}
 use Rattle.promise.specs.StateByHistory.{lost_in, place_by_fall, place_by, row_by, posted_by, wire_by, state_by}
 use Rattle.promise.proofs.StateByPlace.{lost_some, lost_holds, at_place, fallen_stands, lasting_stands, resting_stands, rings_stands, up_is, lost_is}
 use Rattle.promise.proofs.KeptFromCallToCall.{Going}
 use Rattle.promise.proofs.FallAccepted.{none_of}
 use Rattle.promise.proofs.SamePast.{held_same, rings_same, outcome_same}
-use Rattle.proposals.specs.Kinds.{Kind}
 
 -- where the rule refuses nothing, what becomes of the box is what it says
-ruled_so : {K : Type 0} (kind : Kind K) (b : Held K) (h : HeardFrames K) (o : Outcome K) → close_by_frames kind b h ≡ Ok o → outcome_by_frames kind b h ≡ o
+ruled_so : {K : Type 0} (kind : Kind K) (b : Held K) (h : HeardFrames K) (o : Outcome K) → close_by_frames kind b h ≡ Ok o
+    → outcome_by_frames kind b h ≡ o
 unfolding close_by_frames outcome_by_frames close_with
 ruled_so kind b h o e = by _ (outcome_by_frames kind b h) e
   where
@@ -49,7 +50,8 @@ fell_some : (o : Option Fall) (r : ℕ) → fell_in o r ≡ true → is_some o �
 fell_some None r e = e
 fell_some (Some f) r e = refl
 
-module _ {K : Type 0} (kind : Kind K) (unopened : ℕ → Option (List ℕ)) (h : History K) (allowed : IsAllowed h) (quiet : IsQuietBefore h h.closed)
+module _ {K : Type 0} (kind : Kind K) (unopened : ℕ → Option (List ℕ)) (h : History K) (allowed : IsAllowed h)
+    (quiet : IsQuietBefore h h.closed)
     (due : (q : ℕ) → is_some (h.falls q) ≡ fell_before (h.falls q) (suc (suc h.closed))) where
   abbrev s : State K
   s = state_by kind h unopened
@@ -69,7 +71,8 @@ module _ {K : Type 0} (kind : Kind K) (unopened : ℕ → Option (List ℕ)) (h 
             at_place kind h allowed.size p ∙ ap (λ t. cond t (Some (place_by kind h p)) None) (let k : ltb p h.n ≡ true = grind (arith, nat_tests) in k) ∙ ap Some (rings_stands kind h allowed.size unopened p c e) in
             absurd (both_ways (has_rung (state_of_outcome (rings (record { 0 = h.closed }) (rule.estimate h kind p h.closed)))) (list_none has_rung s.row still p _ there) refl)
 
-    at_rest_there : (p : ℕ) → p < h.n → closes h.falls p h.closed ≡ true → slice_get (row_by kind h) p ≡ Some (at_rest (held_after h kind p h.closed))
+    at_rest_there : (p : ℕ) → p < h.n → closes h.falls p h.closed ≡ true
+        → slice_get (row_by kind h) p ≡ Some (at_rest (held_after h kind p h.closed))
     at_rest_there p l c =
         at_place kind h allowed.size p ∙ ap (λ t. cond t (Some (place_by kind h p)) None) (let k : ltb p h.n ≡ true = grind (arith, nat_tests) in k)
         ∙ ap Some (resting_stands kind h allowed.size unopened p c (silent p l c))
@@ -97,7 +100,9 @@ module _ {K : Type 0} (kind : Kind K) (unopened : ℕ → Option (List ℕ)) (h 
         same : hears_on s.wire p q ≡ hears_of_company h p (suc h.closed) q
         same = hears_same p q c
 
-        by : (hears_on s.wire p q ≡ true) ⊎ (hears_on s.wire p q ≡ false) → cond (hears_on s.wire p q) (sent_frame s q) None ≡ cond (hears_of_company h p (suc h.closed) q) (Some (frame_after h kind q h.closed)) None
+        by : (hears_on s.wire p q ≡ true) ⊎ (hears_on s.wire p q ≡ false)
+            → cond (hears_on s.wire p q) (sent_frame s q) None
+            ≡ cond (hears_of_company h p (suc h.closed) q) (Some (frame_after h kind q h.closed)) None
         by (inl e) =
             let u = up_is kind h allowed.size unopened q in
             ap (λ t. cond t (sent_frame s q) None) e ∙ sent_is q (grind (arith, nat_tests)) (grind arith)
@@ -122,14 +127,16 @@ module _ {K : Type 0} (kind : Kind K) (unopened : ℕ → Option (List ℕ)) (h 
     fallen_so : (p : ℕ) → closes h.falls p h.closed ≡ false → place_after kind s p (place_by kind h p) ≡ place_by kind then p
     fallen_so p c = by (fallen_stands kind h allowed.size p c)
       where
-        by : (f : Fall) × (h.falls p ≡ Some f) × (f.round.0 ≤ h.closed) × (place_by kind h p ≡ down f.round) → place_after kind s p (place_by kind h p) ≡ place_by kind then p
+        by : (f : Fall) × (h.falls p ≡ Some f) × (f.round.0 ≤ h.closed) × (place_by kind h p ≡ down f.round)
+            → place_after kind s p (place_by kind h p) ≡ place_by kind then p
         by (f, e, k, is) =
             let late : true ≡ leb f.round.0 (suc h.closed) = grind (arith, nat_tests) in
             ap (place_after kind s p) is
             ∙ ap (λ t. cond t (down f.round) (state_of_outcome (outcome_of then kind p (suc h.closed)))) late
             ∙ ap (λ o. place_by_fall o (suc h.closed) (outcome_of then kind p (suc h.closed))) (sym e)
 
-    falls_so : (p : ℕ) → p < h.n → closes h.falls p h.closed ≡ true → closes h.falls p (suc h.closed) ≡ false → place_after kind s p (place_by kind h p) ≡ place_by kind then p
+    falls_so : (p : ℕ) → p < h.n → closes h.falls p h.closed ≡ true → closes h.falls p (suc h.closed) ≡ false
+        → place_after kind s p (place_by kind h p) ≡ place_by kind then p
     falls_so p l c d =
         ap (place_after kind s p) (resting_stands kind h allowed.size unopened p c (silent p l c))
         ∙ by (fallen_stands kind then allowed.size p d)
@@ -148,7 +155,8 @@ module _ {K : Type 0} (kind : Kind K) (unopened : ℕ → Option (List ℕ)) (h 
             let t : is_some (s.wire.lost p) ≡ true = ap is_some (lost_is kind h allowed.size unopened p) ∙ lost_some (suc h.closed) (h.falls p) ∙ i in
             ap (λ t. cond t (down (round_to_come s)) rested) t ∙ (λ j. down (record { 0 = sym r j })) ∙ sym is
 
-    closing_so : (p : ℕ) → p < h.n → closes h.falls p (suc h.closed) ≡ true → place_after kind s p (place_by kind h p) ≡ place_by kind then p
+    closing_so : (p : ℕ) → p < h.n → closes h.falls p (suc h.closed) ≡ true
+        → place_after kind s p (place_by kind h p) ≡ place_by kind then p
     closing_so p l d =
         let c = closed_before h.falls p h.closed d in
         let u = up_so p in
@@ -165,7 +173,8 @@ module _ {K : Type 0} (kind : Kind K) (unopened : ℕ → Option (List ℕ)) (h 
     stands_so : (p : ℕ) → p < h.n → place_after kind s p (place_by kind h p) ≡ place_by kind then p
     stands_so p l = by (cases_Bool (closes h.falls p h.closed)) (cases_Bool (closes h.falls p (suc h.closed)))
       where
-        by : (closes h.falls p h.closed ≡ true) ⊎ (closes h.falls p h.closed ≡ false) → (closes h.falls p (suc h.closed) ≡ true) ⊎ (closes h.falls p (suc h.closed) ≡ false)
+        by : (closes h.falls p h.closed ≡ true) ⊎ (closes h.falls p h.closed ≡ false)
+            → (closes h.falls p (suc h.closed) ≡ true) ⊎ (closes h.falls p (suc h.closed) ≡ false)
             → place_after kind s p (place_by kind h p) ≡ place_by kind then p
         by (inr c) d = fallen_so p c
         by (inl c) (inr d) = falls_so p l c d
@@ -191,7 +200,8 @@ module _ {K : Type 0} (kind : Kind K) (unopened : ℕ → Option (List ℕ)) (h 
         let f = fell_some (h.falls i) (suc (suc h.closed)) in
         none_of (lost_in (suc (suc h.closed)) (h.falls i)) (grind arith)
 
-    posted_so : (i : ℕ) → cond (member s.wire.up i) (option_map (frame_bytes kind) (sent_frame s i)) None ≡ posted_by kind then unopened (suc h.closed) i
+    posted_so : (i : ℕ)
+        → cond (member s.wire.up i) (option_map (frame_bytes kind) (sent_frame s i)) None ≡ posted_by kind then unopened (suc h.closed) i
     unfolding posted_by
     posted_so i =
         let u = up_is kind h allowed.size unopened i in
@@ -199,7 +209,8 @@ module _ {K : Type 0} (kind : Kind K) (unopened : ℕ → Option (List ℕ)) (h 
         by (ltb i h.n && not (fell_before (h.falls i) (suc h.closed))) refl (grind arith)
       where
         by : (t : Bool) → (ltb i h.n && not (fell_before (h.falls i) (suc h.closed))) ≡ t → member s.wire.up i ≡ t
-            → cond (member s.wire.up i) (option_map (frame_bytes kind) (sent_frame s i)) None ≡ cond t (Some (frame_bytes kind (frame_after then kind i h.closed))) None
+            → cond (member s.wire.up i) (option_map (frame_bytes kind) (sent_frame s i)) None
+            ≡ cond t (Some (frame_bytes kind (frame_after then kind i h.closed))) None
         by false e u = ap (λ t. cond t (option_map (frame_bytes kind) (sent_frame s i)) None) u
         by true e u =
             let c = fell_closes h.falls i h.closed in

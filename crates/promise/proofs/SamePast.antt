@@ -1,14 +1,15 @@
--- Histories that are the same up to some round have the same values up to it. Assumes nothing.
+-- Histories that are the same up to some round have the same values up to it.
 use Rattle.std.proofs.Common.{◌≡◌, ℕ, ◌≤◌, cond, eqb, sym, ap, ◌∙◌}
+use Rattle.proposals.specs.Kinds.{Kind}
 use Rattle.boxes.specs.BoxRounds.{rests, rings}
 use Rattle.rule.specs.Falls.{closes}
 use Rattle.rule.specs.Histories.{History, as_of}
 use Rattle.rule.specs.RuleValues as rule
 use Rattle.rule.specs.HeldValues.{held_after, outcome_of}
 use Rattle.rule.specs.RuleLaws.{OnlyPastCounts}
-use Rattle.proposals.specs.Kinds.{Kind}
 
-module _ {K : Type 0} (kind : Kind K) (only_past : (h : History K) → OnlyPastCounts h kind) (g h : History K) (s : ℕ) (same : as_of s g ≡ as_of s h) (p r : ℕ) (l : r ≤ s) where
+module _ {K : Type 0} (kind : Kind K) (only_past : (h : History K) → OnlyPastCounts h kind) (g h : History K) (s : ℕ)
+    (same : as_of s g ≡ as_of s h) (p r : ℕ) (l : r ≤ s) where
   pub closes_same : closes g.falls p r ≡ closes h.falls p r
   closes_same = sym (only_past g s r p 0 l).0 ∙ ap (λ x. closes x.falls p r) same ∙ (only_past h s r p 0 l).0
 

@@ -1,14 +1,16 @@
--- The ringing and its row by a history, place by place. Assumes nothing.
-use Rattle.std.proofs.Common.{◌≡◌, ℕ, zero, suc, ◌<◌, ◌≤◌, Bool, true, false, not, ◌&&◌, cond, eqb, leb, ltb, ◌⊎◌, List, length, is_some, Some, None, Option, sym, refl, ap, ◌∙◌, inl, inr, arith}
+-- The ringing and its row by a history, place by place.
 use Rattle.std.specs.List.{slice_get}
+use Rattle.std.proofs.Common.{◌≡◌, ℕ, zero, suc, ◌<◌, ◌≤◌, Bool, true, false, not, ◌&&◌, cond, eqb, leb, ltb, ◌⊎◌, List, length, is_some, Some, None, Option, sym, refl, ap, ◌∙◌, inl, inr, arith}
 use Rattle.std.proofs.lemmas.Bool.{cases_Bool}
 use Rattle.std.proofs.lemmas.Bool.Decides.{nat_tests}
 use Rattle.std.proofs.lemmas.List.FromFn.{length-map-range_with_len}
-use Rattle.sets.specs.Companies.{is_company}
 use Rattle.base.specs.Counts.{count}
-use Rattle.sets.specs.Masks.{member}
 use Rattle.base.proofs.CountLemmas.{none_any, count_ext}
+use Rattle.base.proofs.NumberedLemmas.{get-range, numbered_none}
+use Rattle.sets.specs.Companies.{is_company}
+use Rattle.sets.specs.Masks.{member}
 use Rattle.sets.proofs.MemberLemmas.{company_member}
+use Rattle.proposals.specs.Kinds.{Kind}
 use Rattle.boxes.specs.BoxRounds.{Outcome, rests, rings}
 use Rattle.wire.specs.WireState.{is_in}
 use Rattle.rule.specs.declared.falls.Fall.{Fall}
@@ -21,9 +23,7 @@ use Rattle.rule.proofs.RoundLemmas.{closing_heard, fell_closes, fell_next}
 use Rattle.machine.specs.Places.{PlaceState, at_rest, down, state_of_outcome}
 use Rattle.machine.specs.State.{State, is_gone, gone_count}
 use Rattle.machine.specs.RowCheck.{is_other, is_misplaced, bad_row}
-use Rattle.base.proofs.NumberedLemmas.{get-range, numbered_none}
 use Rattle.promise.specs.StateByHistory.{lost_in, place_by_fall, place_by, row_by, wire_by, state_by}
-use Rattle.proposals.specs.Kinds.{Kind}
 
 -- ---- one box that falls
 
@@ -44,7 +44,8 @@ lost_holds r p (Some f) = by (eqb f.round.0 r)
     by false = refl
 
 -- who fell before the next round is down, and who did not stands as it would
-pub stood_fell : {K : Type 0} (o : Option Fall) (r : ℕ) (x : Outcome K) → lasts o r ≡ false → (f : Fall) × (o ≡ Some f) × (f.round.0 ≤ r) × (place_by_fall o r x ≡ down f.round)
+pub stood_fell : {K : Type 0} (o : Option Fall) (r : ℕ) (x : Outcome K) → lasts o r ≡ false
+    → (f : Fall) × (o ≡ Some f) × (f.round.0 ≤ r) × (place_by_fall o r x ≡ down f.round)
 stood_fell None r x e = absurd (grind arith)
 stood_fell (Some f) r x e =
     let l : leb f.round.0 r ≡ true = grind (arith, nat_tests) in
@@ -72,7 +73,8 @@ module _ {K : Type 0} (kind : Kind K) (h : History K) (limits : is_company h.n h
   unfolding row_by
   row_length = length-map-range_with_len (place_by kind h) 0 h.n
 
-  pub fallen_stands : (p : ℕ) → closes h.falls p h.closed ≡ false → (f : Fall) × (h.falls p ≡ Some f) × (f.round.0 ≤ h.closed) × (place_by kind h p ≡ down f.round)
+  pub fallen_stands : (p : ℕ) → closes h.falls p h.closed ≡ false
+      → (f : Fall) × (h.falls p ≡ Some f) × (f.round.0 ≤ h.closed) × (place_by kind h p ≡ down f.round)
   unfolding closes
   fallen_stands p c = stood_fell (h.falls p) h.closed (outcome_of h kind p h.closed) c
 
@@ -106,7 +108,8 @@ module _ {K : Type 0} (kind : Kind K) (h : History K) (limits : is_company h.n h
         grind (arith, nat_tests)
 
     -- a box that rings in the last round stands there so, and any other that closed it is at rest with the rule's values
-    pub resting_stands : (p : ℕ) → closes h.falls p h.closed ≡ true → rule.rings h p h.closed ≡ false → place_by kind h p ≡ at_rest (held_after h kind p h.closed)
+    pub resting_stands : (p : ℕ) → closes h.falls p h.closed ≡ true → rule.rings h p h.closed ≡ false
+        → place_by kind h p ≡ at_rest (held_after h kind p h.closed)
     unfolding outcome_of
     resting_stands p c e = lasting_stands p c ∙ ap (λ t. state_of_outcome (cond t (rings (record { 0 = h.closed }) (rule.estimate h kind p h.closed)) (rests (held_after h kind p h.closed)))) e
 
@@ -140,10 +143,12 @@ module _ {K : Type 0} (kind : Kind K) (h : History K) (limits : is_company h.n h
     placed : (p : ℕ) → p < h.n → is_misplaced s p (place_by kind h p) ≡ false
     placed p l = by (cases_Bool (closes h.falls p h.closed)) (cases_Bool (rule.rings h p h.closed))
       where
-        by : (closes h.falls p h.closed ≡ true) ⊎ (closes h.falls p h.closed ≡ false) → (rule.rings h p h.closed ≡ true) ⊎ (rule.rings h p h.closed ≡ false) → is_misplaced s p (place_by kind h p) ≡ false
+        by : (closes h.falls p h.closed ≡ true) ⊎ (closes h.falls p h.closed ≡ false)
+            → (rule.rings h p h.closed ≡ true) ⊎ (rule.rings h p h.closed ≡ false) → is_misplaced s p (place_by kind h p) ≡ false
         by (inr off) r = fell (fallen_stands p off)
           where
-            fell : (f : Fall) × (h.falls p ≡ Some f) × (f.round.0 ≤ h.closed) × (place_by kind h p ≡ down f.round) → is_misplaced s p (place_by kind h p) ≡ false
+            fell : (f : Fall) × (h.falls p ≡ Some f) × (f.round.0 ≤ h.closed) × (place_by kind h p ≡ down f.round)
+                → is_misplaced s p (place_by kind h p) ≡ false
             fell (f, e, k, is) = ap (is_misplaced s p) is ∙ (let u = up_is p in grind arith)
         by (inl c) (inl r) = ap (is_misplaced s p) (rings_stands p c r) ∙ (let u = up_is p in let z = rung_late p h.closed r in grind (arith, nat_tests))
         by (inl c) (inr r) = ap (is_misplaced s p) (resting_stands p c r) ∙ (let u = up_is p in let o = own_place p in grind (arith, nat_tests))

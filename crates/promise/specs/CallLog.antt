@@ -1,5 +1,5 @@
 -- What calls and their answers tell, and nothing else: the history, and how far each blow has come. To be believed for the promise.
-use Rattle.std.specs.Prelude.{ℕ, suc, if◌then◌else◌, List, [], ◌∷◌, get_or, Result, is_ok, ◌==◌}
+use Rattle.std.specs.Prelude.{ℕ, suc, if◌then◌else◌, List, [], ◌∷◌, slice_index_or, Result, is_ok, ◌==◌}
 use Rattle.base.specs.declared.refusal.Refusal.{Refusal}
 use Rattle.rule.specs.Falls.{no_falls, with_fall}
 use Rattle.rule.specs.Histories.{History}
@@ -20,9 +20,15 @@ pub record Log (K : Type 0) : Type 0 where
 
 -- as a ringing is made: nobody has fallen and no round is closed. What stands for numbers past the proposals does not count
 abbrev pub first_history : {K : Type 0} → ℕ → ℕ → List K → K → History K
-first_history n t proposals past_end = record { n = n; t = t; proposals = λ p. get_or proposals p past_end; falls = no_falls; closed = 0 }
+first_history n t proposals past_end = record {
+  n = n;
+  t = t;
+  proposals = λ p. slice_index_or proposals p past_end;
+  falls = no_falls;
+  closed = 0;
+}
 
--- the course of a history in which no order was drawn
+-- the log of a history in which no order was drawn
 abbrev pub undrawn_log : {K : Type 0} → History K → Log K
 undrawn_log h = record { history = h; blows = λ p. blow.Undrawn }
 
@@ -30,9 +36,11 @@ undrawn_log h = record { history = h; blows = λ p. blow.Undrawn }
 abbrev pub blows_with : Blow → ℕ → (ℕ → Blow) → ℕ → Blow
 blows_with b p blows q = if q == p then b else blows q
 
--- what an accepted call adds: a fall is one in the round after those that are closed; a round is closed; the order of a box is out, struck or missed
+-- what an accepted call adds: a fall is one in the round after those that are closed; a round is closed; the order of a box is out, struck
+-- or missed
 abbrev pub with_call : {K : Type 0} → Request → Log K → Log K
-with_call (request.Fall q lost) c = record c { history = record c.history { falls = with_fall (suc c.history.closed) q.0 lost c.history.falls } }
+with_call (request.Fall q lost) c =
+    record c { history = record c.history { falls = with_fall (suc c.history.closed) q.0 lost c.history.falls } }
 with_call (request.Round room) c = record c { history = record c.history { closed = suc c.history.closed } }
 with_call (request.Ask p) c = c
 with_call (request.Draw p) c = record c { blows = blows_with blow.Out p.0 c.blows }

@@ -1,8 +1,10 @@
--- The promise: what is told of the boxes after a list of calls, by the history that the calls and their answers give. Assumes nothing.
+-- The promise: what is told of the boxes after a list of calls, by the history that the calls and their answers give.
+-- To be believed for the promise.
 use Rattle.std.specs.Prelude.{◌≡◌, ℕ, ◌+◌, ◌<◌, ◌≤◌, Bool, true, false, if◌then◌else◌, ◌&&◌, List, [], ◌∷◌, Ok, Err, Result, ◌==◌, nat_le, nat_lt}
 use Rattle.base.specs.declared.refusal.Refusal.{Refusal}
 use Rattle.sets.specs.declared.box_number.BoxNumber.{BoxNumber}
 use Rattle.proposals.specs.Orders.{goes_before}
+use Rattle.proposals.specs.Kinds.{Kind}
 use Rattle.rule.specs.Falls.{closes}
 use Rattle.rule.specs.Histories.{History, ringing_round}
 use Rattle.rule.specs.RuleValues.{estimate}
@@ -17,11 +19,11 @@ use Rattle.promise.specs.declared.request.Request.TheVariants as request
 use Rattle.promise.specs.declared.request.Reply.{Reply}
 use Rattle.promise.specs.declared.request.Reply.TheVariants as reply
 use Rattle.promise.specs.CallLog.{Answer}
-use Rattle.proposals.specs.Kinds.{Kind}
 
 -- ---- all ring at once
 
--- it is told of box p that it rings, with this round, proposal and blow. The blow may be any: rings, out, struck and missed all count as ringing
+-- it is told of box p that it rings, with this round, proposal and blow. The blow may be any: rings, out, struck and missed all count as
+-- ringing
 abbrev pub ToldRinging : {K : Type 0} → State K → BoxNumber → Rung K → Type 0
 ToldRinging s p x = on_ask p s ≡ Ok (standing.Rung x)
 
@@ -32,7 +34,8 @@ tells_ringing (Ok (standing.Down r)) = false
 tells_ringing (Ok (standing.Rung x)) = true
 tells_ringing (Err e) = false
 
--- box p is of the company and closed round r: r is one of the rounds closed, which are 1 to their count, and p fell neither before it nor in it
+-- box p is of the company and closed round r: r is one of the rounds closed, which are 1 to their count, and p fell neither before it nor in
+-- it
 abbrev pub has_closed : {K : Type 0} → History K → ℕ → ℕ → Bool
 has_closed h p r = nat_lt p h.n && nat_le 1 r && nat_le r h.closed && closes h.falls p r
 
@@ -45,23 +48,25 @@ pub record OneRing {K : Type 0} (kind : Kind K) (s : State K) (h : History K) : 
   pub reached : (p : BoxNumber) (x : Rung K) → ToldRinging s p x → x.proposal ≡ estimate h kind p.0 x.round.0
   -- a box proposed it, and no ringing box proposed one that goes before it
   pub proposed : (p : BoxNumber) (x : Rung K) → ToldRinging s p x → (q : ℕ) × (q < h.n) × (x.proposal ≡ h.proposals q)
-  pub foremost : (p q : BoxNumber) (x y : Rung K) → ToldRinging s p x → ToldRinging s q y → goes_before kind.leads (h.proposals q.0) x.proposal ≡ false
+  pub foremost : (p q : BoxNumber) (x y : Rung K) → ToldRinging s p x → ToldRinging s q y
+      → goes_before kind.leads (h.proposals q.0) x.proposal ≡ false
   -- a box rings exactly when it closed round t + 1 - D, and that is the one round
   pub exactly : (p : BoxNumber) → tells_ringing (on_ask p s) ≡ has_closed h p.0 (ringing_round h)
   pub at : (p : BoxNumber) (x : Rung K) → ToldRinging s p x → x.round.0 ≡ ringing_round h
-  -- and estimates are what the boxes' own closing gives: a new box begins with the rule's values; while one has not rung there is a box at rest with
-  -- them; and such a box, told the frames of just the boxes that it hears in the next round, closes that round to its values
+  -- and estimates are what the boxes' own closing gives: a new box begins with the rule's values; while one has not rung there is a box at
+  -- rest with them; and such a box, told the frames of just the boxes that it hears in the next round, closes that round to its values
   pub begins : BoxBegins h kind
   pub rests : BoxRests h kind
   pub closes : BoxFollowsSent h kind
 
 -- ---- each strike order is given back at most once
 
--- the call is accepted, and passes a test, which is of a call and its reply; how many of a list do
+-- the call is accepted, and passes a test, which is of a call and its reply
 abbrev pub is_accepted_as : {K : Type 0} → (Request → Reply K → Bool) → Request → Answer K → Bool
 is_accepted_as test c (Ok r) = test c r
 is_accepted_as test c (Err e) = false
 
+-- how many of a list do
 unfoldable pub count_accepted : {K : Type 0} → (Request → Reply K → Bool) → List Request → List (Answer K) → ℕ
 count_accepted test [] answers = 0
 count_accepted test (c ∷ calls) [] = 0
@@ -77,12 +82,13 @@ module _ {K : Type 0} where
   draws p (request.Struck q k) r = false
   draws p (request.Missed q k) r = false
 
-  -- and it is of round k
+  -- the reply hands out an order of round k
   abbrev pub is_for : ℕ → Reply K → Bool
   is_for k reply.Done = false
   is_for k (reply.Told x) = false
   is_for k (reply.Drawn r) = r.0 == k
 
+  -- the call hands out the order of box p and round k
   abbrev pub hands_out : ℕ → ℕ → Request → Reply K → Bool
   hands_out p k c r = draws p c r && is_for k r
 

@@ -1,8 +1,8 @@
-// Lists of calls on a ringing, accepted or refused, and the history that they give.
+//! The promise of a ringing: lists of calls, accepted or refused, the history that they give, and what holds after each.
 #![tactic(auto)]
 
-mod request;
 mod laws;
+mod request;
 
-pub use request::{Reply, Request};
 pub use laws::promise_laws;
+pub use request::{Reply, Request};
