@@ -1,4 +1,4 @@
--- The blow of a box that rings, as its place is written. Assumes nothing.
+-- The blow of a box that rings, as its place is written.
 use Rattle.std.proofs.Common.{◌≡◌, ℕ, true, false, cond, not, eqb, ◌⊎◌, List, [], ◌∷◌, map, set, Some, None, Ok, Err, Option, option_map, Result, sym, refl, ap, ◌∙◌, inl, inr, arith}
 use Rattle.std.specs.List.{slice_get}
 use Rattle.std.specs.Option.{ok_or, option_and_then}
@@ -27,7 +27,8 @@ use Rattle.promise.specs.CallLog.{Answer}
 use Rattle.base.proofs.NumberedLemmas.{list_ext, get-by_number, get-set}
 
 -- where a box rings the place says so
-pub rung_place : {K : Type 0} (row : List (Place K)) (p : ℕ) (x : Rung K) → option_and_then rung_of (slice_get (map place_state row) p) ≡ Some x → slice_get row p ≡ Some (place.Rung x)
+pub rung_place : {K : Type 0} (row : List (Place K)) (p : ℕ) (x : Rung K)
+    → option_and_then rung_of (slice_get (map place_state row) p) ≡ Some x → slice_get row p ≡ Some (place.Rung x)
 rung_place {K} row p x e = by (slice_get row p) (ap (option_and_then rung_of) (sym (slice_get-map place_state row p)) ∙ e)
   where
     by : (o : Option (Place K)) → option_and_then rung_of (option_map place_state o) ≡ Some x → o ≡ Some (place.Rung x)
@@ -43,7 +44,8 @@ module _ {K : Type 0} (row : List (Place K)) (p : ℕ) (x : Rung K) (b : Blow) (
   abbrev then : Place K
   then = place.Rung (record x { blow = b })
 
-  here : (q : ℕ) → (eqb q p ≡ true) ⊎ (eqb q p ≡ false) → option_map place_state (cond (eqb q p) (Some then) (slice_get row q)) ≡ option_map (f q) (option_map place_state (slice_get row q))
+  here : (q : ℕ) → (eqb q p ≡ true) ⊎ (eqb q p ≡ false)
+      → option_map place_state (cond (eqb q p) (Some then) (slice_get row q)) ≡ option_map (f q) (option_map place_state (slice_get row q))
   here q (inl e) =
       let at : slice_get row q ≡ Some (place.Rung x) = ap (slice_get row) (eqb-true q p e) ∙ there in
       ap (λ t. option_map place_state (cond t (Some then) (slice_get row q))) e
@@ -64,7 +66,8 @@ module _ {K : Type 0} (row : List (Place K)) (p : ℕ) (x : Rung K) (b : Blow) (
       ∙ sym (get-by_number f (map place_state row) q ∙ ap (option_map (f q)) (slice_get-map place_state row q)))
 
 -- where the box does not ring, nothing
-pub blow_kept : {K : Type 0} (row : List (Place K)) (p : ℕ) (b : Blow) → option_and_then rung_of (slice_get (map place_state row) p) ≡ None → map place_state row ≡ by_number (λ q y. cond (eqb q p) (with_its_blow b y) y) (map place_state row)
+pub blow_kept : {K : Type 0} (row : List (Place K)) (p : ℕ) (b : Blow) → option_and_then rung_of (slice_get (map place_state row) p) ≡ None
+    → map place_state row ≡ by_number (λ q y. cond (eqb q p) (with_its_blow b y) y) (map place_state row)
 blow_kept {K} row p b none = list_ext _ _ (λ q. here q (cases_Bool (eqb q p)) ∙ sym (get-by_number (λ q y. cond (eqb q p) (with_its_blow b y) y) (map place_state row) q))
   where
     quiet : (o : Option (PlaceState K)) → option_and_then rung_of o ≡ None → o ≡ option_map (with_its_blow b) o
@@ -77,7 +80,8 @@ blow_kept {K} row p b none = list_ext _ _ (λ q. here q (cases_Bool (eqb q p)) �
     same None = refl
     same (Some y) = refl
 
-    here : (q : ℕ) → (eqb q p ≡ true) ⊎ (eqb q p ≡ false) → slice_get (map place_state row) q ≡ option_map (λ y. cond (eqb q p) (with_its_blow b y) y) (slice_get (map place_state row) q)
+    here : (q : ℕ) → (eqb q p ≡ true) ⊎ (eqb q p ≡ false)
+        → slice_get (map place_state row) q ≡ option_map (λ y. cond (eqb q p) (with_its_blow b y) y) (slice_get (map place_state row) q)
     here q (inr e) = same (slice_get (map place_state row) q) ∙ ap (λ t. option_map (λ y. cond t (with_its_blow b y) y) (slice_get (map place_state row) q)) (sym e)
     here q (inl e) =
         quiet (slice_get (map place_state row) q) (ap (λ k. option_and_then rung_of (slice_get (map place_state row) k)) (eqb-true q p e) ∙ none)
@@ -86,7 +90,8 @@ blow_kept {K} row p b none = list_ext _ _ (λ q. here q (cases_Bool (eqb q p)) �
 -- ---- what comes of it
 
 module _ {K : Type 0} (s : State K) (p : BoxNumber) where
-  pub drawn_state : (r : RoundNumber) → Ok r ≡ result_map_both (λ x. x.0) (λ e. e) (on_draw p s) → on_draw p s ≡ Ok (r, with_blow blow.Out p.0 s)
+  pub drawn_state : (r : RoundNumber) → Ok r ≡ result_map_both (λ x. x.0) (λ e. e) (on_draw p s)
+      → on_draw p s ≡ Ok (r, with_blow blow.Out p.0 s)
   unfolding on_draw
   drawn_state r e = by (slice_get s.row p.0) e
     where
@@ -97,7 +102,8 @@ module _ {K : Type 0} (s : State K) (p : BoxNumber) where
           and_then (λ e. e) (ok_or (rung_of place) refusal.Silent) (λ x.
           unless ((not (is_undrawn x.blow), refusal.Order) ∷ []) (x.round, with_blow blow.Out p.0 s))))
 
-      by : (o : Option (PlaceState K)) → Ok r ≡ result_map_both (λ x. x.0) (λ e. e) (drawing_of o) → drawing_of o ≡ Ok (r, with_blow blow.Out p.0 s)
+      by : (o : Option (PlaceState K)) → Ok r ≡ result_map_both (λ x. x.0) (λ e. e) (drawing_of o)
+          → drawing_of o ≡ Ok (r, with_blow blow.Out p.0 s)
       by None e = absurd (grind arith)
       by (Some (at_rest h)) e = absurd (grind arith)
       by (Some (down f)) e = absurd (grind arith)

@@ -1,4 +1,4 @@
--- Telling a ringing that a box falls, exit by exit. Assumes nothing.
+-- Telling a ringing that a box falls, exit by exit.
 use Rattle.std.specs.Prelude.{nat_le}
 use Rattle.std.proofs.Common.{◌≡◌, ℕ, ◌<◌, ◌≤◌, true, false, [], ◌∷◌, Ok, Err, OnErr, Result, refl, arith}
 use Rattle.std.specs.Bool.{⊤}
@@ -32,14 +32,17 @@ falls_so (Err x) m then e is = absurd (grind arith)
 
 module _ {K : Type 0} (q : BoxNumber) (lost : BoxSet) (s : State K) where
   -- an accepted one is one that the wire accepts
-  pub told_ok : Ok tt ≡ answer (on_fall q lost s) → (m : WireState) × (wire_on_fall q.0 lost s.wire ≡ Ok m) × (on_fall q lost s ≡ Ok (record s { wire = m }))
+  pub told_ok : Ok tt ≡ answer (on_fall q lost s)
+      → (m : WireState) × (wire_on_fall q.0 lost s.wire ≡ Ok m) × (on_fall q lost s ≡ Ok (record s { wire = m }))
   unfolding on_fall
   told_ok e = by (wire_on_fall q.0 lost s.wire) refl e
     where
       by : (r : Result WireState Refusal) → wire_on_fall q.0 lost s.wire ≡ r
-          → Ok tt ≡ answer (and_then (λ e. e) (going_on_verdict s) (λ _. and_then (λ e. e) r (λ m. unless ((nat_le s.t (gone_count s.wire), refusal.Spent) ∷ []) (record s { wire = m }))))
+          → Ok tt ≡ answer (and_then (λ e. e) (going_on_verdict s) (λ _. and_then (λ e. e) r (λ m.
+          unless ((nat_le s.t (gone_count s.wire), refusal.Spent) ∷ []) (record s { wire = m }))))
           → (m : WireState) × (wire_on_fall q.0 lost s.wire ≡ Ok m)
-          × (and_then (λ e. e) (going_on_verdict s) (λ _. and_then (λ e. e) (wire_on_fall q.0 lost s.wire) (λ m. unless ((nat_le s.t (gone_count s.wire), refusal.Spent) ∷ []) (record s { wire = m }))) ≡ Ok (record s { wire = m }))
+          × (and_then (λ e. e) (going_on_verdict s) (λ _. and_then (λ e. e) (wire_on_fall q.0 lost s.wire) (λ m.
+          unless ((nat_le s.t (gone_count s.wire), refusal.Spent) ∷ []) (record s { wire = m }))) ≡ Ok (record s { wire = m }))
       by (Ok m) is e = (m, is, grind arith)
       by (Err x) is e = absurd (grind arith)
 
@@ -57,7 +60,8 @@ module _ {K : Type 0} (q : BoxNumber) (lost : BoxSet) (s : State K) where
       unfolding on_fall
       tell_refused e is = grind arith
 
-      pub tell_spent : (m : WireState) → wire_on_fall q.0 lost s.wire ≡ Ok m → s.t ≤ gone_count s.wire → on_fall q lost s ≡ Err refusal.Spent
+      pub tell_spent : (m : WireState) → wire_on_fall q.0 lost s.wire ≡ Ok m → s.t ≤ gone_count s.wire
+          → on_fall q lost s ≡ Err refusal.Spent
       unfolding on_fall
       tell_spent m is l = grind (arith, nat_tests)
 
@@ -75,7 +79,8 @@ module _ {K : Type 0} (q : BoxNumber) (lost : BoxSet) (s : State K) where
         unfolding on_fall
         answer_ok is l = grind (arith, nat_tests)
 
-      pub tell_ok : (m : WireState) → wire_on_fall q.0 lost s.wire ≡ Ok m → gone_count s.wire < s.t → on_fall q lost s ≡ Ok (record s { wire = m })
+      pub tell_ok : (m : WireState) → wire_on_fall q.0 lost s.wire ≡ Ok m → gone_count s.wire < s.t
+          → on_fall q lost s ≡ Ok (record s { wire = m })
       unfolding on_fall
       tell_ok m is l = grind (arith, nat_tests)
 

@@ -1,4 +1,4 @@
--- What a box of the company hears of another, where there is room for a frame. Assumes nothing.
+-- What a box of the company hears of another, where there is room for a frame.
 use Rattle.std.proofs.Common.{◌≡◌, ℕ, ◌<◌, ◌≤◌, ◌+◌, Bool, true, false, cond, ◌||◌, leb, ltb, List, [], ◌∷◌, ◌++◌, length, take, drop, Some, None, Ok, Err, Option, option_map, Result, unwrap_or, refl, sym, ap, ◌∙◌, arith}
 use Rattle.std.specs.Bool.{⊤}
 use Rattle.std.specs.Result.{result_map_both, result_unwrap_or}
@@ -59,7 +59,8 @@ module _ (m : WireState) (w : IsWellFormed m) (p q : ℕ) where
     pub fetched_some : (a : ℕ) → r ≡ Ok (Some a) → (a ≤ length new) × (heard_frame m p q ≡ Some (take a new))
     fetched_some a is = let l = placed_by (length out) (Some a) (sym tells ∙ is) in by (heard_frame m p q) (tells_so l) (lays_so l) heard_short
       where
-        by : (o : Option (List ℕ)) → r ≡ Ok (option_map length o) → new ≡ fetched_bytes (Ok o) out → ((f : List ℕ) → o ≡ Some f → (1 ≤ length f) × (length f ≤ longest_frame))
+        by : (o : Option (List ℕ)) → r ≡ Ok (option_map length o) → new ≡ fetched_bytes (Ok o) out
+            → ((f : List ℕ) → o ≡ Some f → (1 ≤ length f) × (length f ≤ longest_frame))
             → (a ≤ length new) × (o ≡ Some (take a new))
         by None t n short = absurd (grind arith)
         by (Some f) t n short =
@@ -74,10 +75,12 @@ pub taken_length : {X : Type 0} (n : ℕ) (xs : List X) → n ≤ length xs → 
 taken_length n xs l = sym (length-take-le n xs l)
 
 -- refusals by another name
-pub told_again : {X E D : Type 0} (f : E → D) (r : Result X E) → result_map_both {U = ⊤} (λ _. tt) f r ≡ result_map_both (λ _. tt) (λ e. e) (result_map_both (λ n. n) f r)
+pub told_again : {X E D : Type 0} (f : E → D) (r : Result X E)
+    → result_map_both {U = ⊤} (λ _. tt) f r ≡ result_map_both (λ _. tt) (λ e. e) (result_map_both (λ n. n) f r)
 told_again f (Ok x) = refl
 told_again f (Err e) = refl
 
-pub kept_again : {X E D : Type 0} (f : E → D) (r : Result X E) (x : X) → result_unwrap_or r x ≡ result_unwrap_or (result_map_both (λ n. n) f r) x
+pub kept_again : {X E D : Type 0} (f : E → D) (r : Result X E) (x : X)
+    → result_unwrap_or r x ≡ result_unwrap_or (result_map_both (λ n. n) f r) x
 kept_again f (Ok y) x = refl
 kept_again f (Err e) x = refl

@@ -1,4 +1,4 @@
--- A box hears the others one after another and closes as the rule says. Assumes nothing.
+-- A box hears the others one after another and closes as the rule says.
 use Rattle.base.specs.Results.{refused_with}
 use Rattle.base.specs.declared.refused.Refused.{Refused}
 use Rattle.std.proofs.Common.{◌≡◌, ℕ, ◌+◌, ◌<◌, Bool, true, false, cond, ◌||◌, eqb, ltb, ◌⊎◌, is_some, Some, None, Ok, Option, option_map, Result, refl, sym, ap, ◌∙◌, subst, inl, inr, arith}
@@ -31,7 +31,7 @@ use Rattle.machine.specs.State.{State, hears_on}
 use Rattle.machine.specs.RoundCall.{frame_at, sent_frame, frames_heard_by}
 use Rattle.machine.specs.MachineLaws.{RefusesNothing}
 use Rattle.machine.proofs.RoundNotRefused.{bytes_of}
-use Rattle.ringing.specs.RingingStates.{InRound, notes_when_told}
+use Rattle.ringing.specs.Exchanges.{InRound, notes_when_told}
 use Rattle.proposals.specs.Kinds.{Kind, IsOrder}
 
 -- the frames that box p hears of the boxes below m, and its own
@@ -39,7 +39,8 @@ abbrev pub heard_below : {K : Type 0} → State K → ℕ → ℕ → HeardFrame
 heard_below s p m i = cond (ltb i m || eqb i p) (frames_heard_by s p i) None
 
 -- a frame that is sent is of the box at that place
-sender_of : {K : Type 0} (o : Option (PlaceState K)) (f : Frame K) (q : ℕ) → ((c : Held K) → o ≡ Some (at_rest c) → c.number.0 ≡ q) → frame_at o ≡ Some f → f.sender.0 ≡ q
+sender_of : {K : Type 0} (o : Option (PlaceState K)) (f : Frame K) (q : ℕ) → ((c : Held K) → o ≡ Some (at_rest c) → c.number.0 ≡ q)
+    → frame_at o ≡ Some f → f.sender.0 ≡ q
 sender_of None f q own e = absurd (grind arith)
 sender_of (Some (at_rest c)) f q own e = let same : frame_of c ≡ f = cc in ap (λ g. g.sender.0) (sym same) ∙ own c refl
 sender_of (Some (down r)) f q own e = absurd (grind arith)
@@ -138,7 +139,8 @@ module _ {K : Type 0} (kind : Kind K) (order : IsOrder kind.leads)
                 let v : eqb i f.sender.0 ≡ false = grind (arith, nat_tests) in
                 ap (λ t. option_or (below q i) (cond t (Some f) None)) v ∙ or_none (below q i) ∙ same_at i off
 
-        by : (o : Option (Frame K)) → frames_heard_by s p q ≡ o → (n : Notes K) × (notes_when_told kind b.held m (heard_frame w p q) ≡ Ok n) × Shows kind b n (below (q + 1))
+        by : (o : Option (Frame K)) → frames_heard_by s p q ≡ o
+            → (n : Notes K) × (notes_when_told kind b.held m (heard_frame w p q) ≡ Ok n) × Shows kind b n (below (q + 1))
         by None e =
             (m, ap (notes_when_told kind b.held m) (heard_bytes q ∙ ap (option_map (frame_bytes kind)) e), subst (Shows kind b m) (λ j i. nothing e i j) shows)
         by (Some f) e =
@@ -161,7 +163,9 @@ module _ {K : Type 0} (kind : Kind K) (order : IsOrder kind.leads)
         omega arith
 
     -- the same of a box that is known to be it
-    pub tells_more : (x : Resting K) → x ≡ b → (n : Notes K) × (x.held.number.0 < w.n) × (notes_when_told kind x.held m (heard_frame w x.held.number.0 q) ≡ Ok n) × Shows kind b n (below (q + 1))
+    pub tells_more : (x : Resting K) → x ≡ b
+        → (n : Notes K) × (x.held.number.0 < w.n) × (notes_when_told kind x.held m (heard_frame w x.held.number.0 q) ≡ Ok n)
+        × Shows kind b n (below (q + 1))
     tells_more x e = (hears_more.0, own_placed x e, ap (λ y. notes_when_told kind y.held m (heard_frame w y.held.number.0 q)) e ∙ hears_more.1, hears_more.2)
 
   -- when all were heard it closes as the rule says
@@ -180,7 +184,9 @@ module _ {K : Type 0} (kind : Kind K) (order : IsOrder kind.leads)
           ap (λ t. cond t (frames_heard_by s p i) None) t ∙ ap (λ t. cond t (sent_frame s i) None) (sym u)
 
   -- so does a listening box that is known to be it
-  pub closed_so : (l : Listening K) (q : ℕ) (a : Result (Closed K) (Refused (Listening K) BoxFault)) → l.resting ≡ b → q ≡ w.n → Shows kind b l.notes (below q)
-      → result_map_both outcome (λ e. e) a ≡ map_fault (refused_with l) (on_close l.resting.held l.notes) → result_map_both outcome (λ e. e) a ≡ Ok (outcome_by_frames kind b.held (frames_heard_by s p))
+  pub closed_so : (l : Listening K) (q : ℕ) (a : Result (Closed K) (Refused (Listening K) BoxFault)) → l.resting ≡ b → q ≡ w.n
+      → Shows kind b l.notes (below q)
+      → result_map_both outcome (λ e. e) a ≡ map_fault (refused_with l) (on_close l.resting.held l.notes)
+      → result_map_both outcome (λ e. e) a ≡ Ok (outcome_by_frames kind b.held (frames_heard_by s p))
   closed_so l q a same all shows closes =
       closes ∙ ap (map_fault (refused_with l)) (ap (λ x. on_close x.held l.notes) same ∙ closes_so l.notes (subst (λ i. Shows kind b l.notes (below i)) all shows))

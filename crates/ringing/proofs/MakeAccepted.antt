@@ -1,4 +1,4 @@
--- A ringing is made where the checks let it be: then each new box is one that there is. Assumes nothing.
+-- A ringing is made where the checks let it be: then each new box is one that there is.
 use Rattle.std.proofs.Common.{◌≡◌, ℕ, cond, ◌+◌, ◌<◌, Bool, true, false, eqb, ltb, List, length, map, set, Some, IfOk, Ok, Err, Option, Result, option_map, refl, sym, ap, ◌∙◌, below_more, arith}
 use Rattle.std.specs.List.{slice_get}
 use Rattle.std.proofs.lemmas.Bool.Decides.{nat_tests}
@@ -24,7 +24,8 @@ pub record Makes {K : Type 0} (n t : ℕ) (m : WireState) (places : ℕ) (propos
   pub wire_n : m.n ≡ n
   pub made : on_make n t m places proposals ≡ Ok (record { wire = m; t = t; closed = 0; row = first_row n t proposals })
 
-pub makes : {K : Type 0} (n t : ℕ) (m : WireState) (places : ℕ) (proposals : List K) → Ok tt ≡ answer (on_make n t m places proposals) → Makes n t m places proposals
+pub makes : {K : Type 0} (n t : ℕ) (m : WireState) (places : ℕ) (proposals : List K) → Ok tt ≡ answer (on_make n t m places proposals)
+    → Makes n t m places proposals
 unfolding on_make
 makes n t m places proposals e = record {
   size = grind (arith, nat_tests);
@@ -34,7 +35,8 @@ makes n t m places proposals e = record {
   made = grind (arith, nat_tests);
 }
 
-pub makes_not : {K : Type 0} (n t : ℕ) (m : WireState) (places : ℕ) (proposals : List K) (e : Refusal) → Err e ≡ answer (on_make n t m places proposals) → on_make n t m places proposals ≡ Err e
+pub makes_not : {K : Type 0} (n t : ℕ) (m : WireState) (places : ℕ) (proposals : List K) (e : Refusal)
+    → Err e ≡ answer (on_make n t m places proposals) → on_make n t m places proposals ≡ Err e
 makes_not {K} n t m places proposals e is = by (on_make n t m places proposals) is
   where
     by : (r : Result (State K) Refusal) → Err e ≡ answer r → r ≡ Err e
@@ -42,13 +44,16 @@ makes_not {K} n t m places proposals e is = by (on_make n t m places proposals) 
     by (Err x) is = cc
 
 -- a box of the company is made
-pub box_made : {K : Type 0} (n t p : ℕ) (v : K) → is_company n t ≡ true → p < n → new_box (record { 0 = p }) n t v ≡ Ok (first_held (record { 0 = p }) n t v)
+pub box_made : {K : Type 0} (n t p : ℕ) (v : K) → is_company n t ≡ true → p < n
+    → new_box (record { 0 = p }) n t v ≡ Ok (first_held (record { 0 = p }) n t v)
 box_made n t p v kind l = grind (arith, nat_tests)
 
-pub held_made : {K : Type 0} (n t p : ℕ) (v : K) (b : Held K) → is_company n t ≡ true → p < n → Ok b ≡ new_box (record { 0 = p }) n t v → b ≡ first_held (record { 0 = p }) n t v
+pub held_made : {K : Type 0} (n t p : ℕ) (v : K) (b : Held K) → is_company n t ≡ true → p < n → Ok b ≡ new_box (record { 0 = p }) n t v
+    → b ≡ first_held (record { 0 = p }) n t v
 held_made n t p v b kind l e = let m = box_made n t p v kind l in cc
 
-pub never_refused : {K A : Type 0} (n t p : ℕ) (v : K) (e : Refusal) → is_company n t ≡ true → p < n → Err e ≡ new_box (record { 0 = p }) n t v → A
+pub never_refused : {K A : Type 0} (n t p : ℕ) (v : K) (e : Refusal) → is_company n t ≡ true → p < n
+    → Err e ≡ new_box (record { 0 = p }) n t v → A
 never_refused n t p v e kind l is = absurd (let m = box_made n t p v kind l in grind arith)
 
 module _ {K : Type 0} (n t : ℕ) (proposals : List K) where
@@ -57,8 +62,10 @@ module _ {K : Type 0} (n t : ℕ) (proposals : List K) where
   first k = option_map (λ v. at_rest (first_held (record { 0 = k }) n t v)) (slice_get proposals k)
 
   -- one place more is filled
-  pub filled_more : (row : List (Place K)) (p : ℕ) (x : Place K) (v : K) → p < length row → slice_get proposals p ≡ Some v → place_state x ≡ at_rest (first_held (record { 0 = p }) n t v)
-      → ((k : ℕ) → k < p → slice_get (map place_state row) k ≡ first k) → (k : ℕ) → k < p + 1 → slice_get (map place_state (set row p x)) k ≡ first k
+  pub filled_more : (row : List (Place K)) (p : ℕ) (x : Place K) (v : K) → p < length row → slice_get proposals p ≡ Some v
+      → place_state x ≡ at_rest (first_held (record { 0 = p }) n t v)
+      → ((k : ℕ) → k < p → slice_get (map place_state row) k ≡ first k) → (k : ℕ) → k < p + 1
+      → slice_get (map place_state (set row p x)) k ≡ first k
   filled_more row p x v l at is filled = below_more (λ k. slice_get (map place_state (set row p x)) k ≡ first k) p
       (λ k m. changed k ∙ ap (λ t. option_map place_state (cond t (Some x) (slice_get row k))) (let e : eqb k p ≡ false = grind (arith, nat_tests) in e) ∙ sym (slice_get-map place_state row k) ∙ filled k m)
       (changed p ∙ ap (λ t. option_map place_state (cond t (Some x) (slice_get row p))) (let e : eqb p p ≡ true = grind (arith, nat_tests) in e) ∙ ap Some is
@@ -68,7 +75,8 @@ module _ {K : Type 0} (n t : ℕ) (proposals : List K) where
       changed k = slice_get-map place_state (set row p x) k ∙ ap (option_map place_state) (get-set row p k x l)
 
   -- all are
-  pub filled_all : (row : List (Place K)) → length row ≡ n → length proposals ≡ n → ((k : ℕ) → k < n → slice_get (map place_state row) k ≡ first k) → map place_state row ≡ first_row n t proposals
+  pub filled_all : (row : List (Place K)) → length row ≡ n → length proposals ≡ n
+      → ((k : ℕ) → k < n → slice_get (map place_state row) k ≡ first k) → map place_state row ≡ first_row n t proposals
   filled_all row len given filled = list_ext (map place_state row) (first_row n t proposals) (λ k. by k (ltb k n) refl ∙ sym (get-by_number (λ p v. at_rest (first_held (record { 0 = p }) n t v)) proposals k))
     where
       by : (k : ℕ) (b : Bool) → ltb k n ≡ b → slice_get (map place_state row) k ≡ first k

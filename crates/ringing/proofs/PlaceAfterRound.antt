@@ -1,4 +1,4 @@
--- What stands at the place of a box at rest after the round. Assumes nothing.
+-- What stands at the place of a box at rest after the round.
 use Rattle.std.proofs.Common.{◌≡◌, ℕ, ◌+◌, ◌<◌, ◌≤◌, Bool, true, false, cond, eqb, ltb, List, length, map, set, get_or, is_some, Some, None, option_map, refl, sym, ap, ◌∙◌, below_more, arith}
 use Rattle.std.specs.List.{slice_get}
 use Rattle.std.proofs.lemmas.Bool.Decides.{nat_tests}
@@ -15,7 +15,7 @@ use Rattle.base.specs.Numbered.{by_number}
 use Rattle.base.proofs.NumberedLemmas.{list_ext, get-by_number, get-set}
 use Rattle.machine.specs.State.{State}
 use Rattle.machine.specs.RoundCall.{frames_heard_by, round_to_come, place_after}
-use Rattle.ringing.specs.RingingStates.{InRound}
+use Rattle.ringing.specs.Exchanges.{InRound}
 use Rattle.ringing.proofs.WireSets.{falling_member}
 use Rattle.proposals.specs.Kinds.{Kind}
 
@@ -37,7 +37,8 @@ module _ {K : Type 0} (kind : Kind K) (w : WireState) (well : IsWellFormed w) (s
     pub falls_down : member falling b.held.number.0 ≡ true → down (round_to_come s) ≡ place_after kind s p (at_rest b.held)
     falls_down e = ap (λ t. cond t (down (round_to_come s)) (state_of_outcome (outcome_by_frames kind b.held (frames_heard_by s p)))) (sym (sym lost_is ∙ e))
 
-    pub stays_up : member falling b.held.number.0 ≡ false → state_of_outcome (outcome_by_frames kind b.held (frames_heard_by s b.held.number.0)) ≡ place_after kind s p (at_rest b.held)
+    pub stays_up : member falling b.held.number.0 ≡ false
+        → state_of_outcome (outcome_by_frames kind b.held (frames_heard_by s b.held.number.0)) ≡ place_after kind s p (at_rest b.held)
     stays_up e = ap (λ i. state_of_outcome (outcome_by_frames kind b.held (frames_heard_by s i))) number_is ∙ ap (λ t. cond t (down (round_to_come s)) (state_of_outcome (outcome_by_frames kind b.held (frames_heard_by s p)))) (sym (sym lost_is ∙ e))
 
 -- ---- place after place
@@ -47,7 +48,8 @@ module _ {K : Type 0} (f : ℕ → PlaceState K → PlaceState K) (old : List (P
   abbrev pub Done : ℕ → List (Place K) → Type 0
   Done i row = ((j : ℕ) → j < i → slice_get (map place_state row) j ≡ option_map (f j) (slice_get old j)) × ((j : ℕ) → i ≤ j → slice_get (map place_state row) j ≡ slice_get old j)
 
-  pub done_more : (row : List (Place K)) (i : ℕ) (x : Place K) (y : PlaceState K) → i < length row → slice_get old i ≡ Some y → place_state x ≡ f i y → Done i row → Done (i + 1) (set row i x)
+  pub done_more : (row : List (Place K)) (i : ℕ) (x : Place K) (y : PlaceState K) → i < length row → slice_get old i ≡ Some y
+      → place_state x ≡ f i y → Done i row → Done (i + 1) (set row i x)
   done_more row i x y l at is (below, above) = (
     below_more (λ j. slice_get (map place_state (set row i x)) j ≡ option_map (f j) (slice_get old j)) i
         (λ j m. changed j ∙ ap (λ t. option_map place_state (cond t (Some x) (slice_get row j))) (let e : eqb j i ≡ false = grind (arith, nat_tests) in e) ∙ sym (slice_get-map place_state row j) ∙ below j m)
@@ -68,6 +70,7 @@ module _ {K : Type 0} (f : ℕ → PlaceState K → PlaceState K) (old : List (P
           none ∙ ap (option_map (f j)) (sym none ∙ above j (grind (arith, nat_tests)))
 
   -- what was read at the next place is what stood there
-  pub read_next : (row : List (Place K)) (i : ℕ) (x : Place K) → i < length row → x ≡ get_or row i x → Done i row → slice_get old i ≡ Some (place_state (get_or row i x))
+  pub read_next : (row : List (Place K)) (i : ℕ) (x : Place K) → i < length row → x ≡ get_or row i x → Done i row
+      → slice_get old i ≡ Some (place_state (get_or row i x))
   read_next row i x l e (below, above) =
       sym (above i (omega arith)) ∙ slice_get-map place_state row i ∙ ap (option_map place_state) (slice_get_read row (length row) i x refl l e) ∙ ap (λ y. Some (place_state y)) e

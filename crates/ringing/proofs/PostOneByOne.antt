@@ -1,4 +1,4 @@
--- The boxes at rest post their frames one after another. Assumes nothing.
+-- The boxes at rest post their frames one after another.
 use Rattle.std.proofs.Common.{◌≡◌, ℕ, ◌+◌, ◌<◌, Bool, true, false, cond, eqb, ltb, ◌⊎◌, List, length, map, get_or, Some, None, Ok, Option, option_map, refl, sym, ap, ◌∙◌, inl, inr, arith}
 use Rattle.std.specs.List.{slice_get}
 use Rattle.std.proofs.lemmas.Bool.{cases_eq}
@@ -19,7 +19,8 @@ use Rattle.machine.specs.MachineLaws.{RefusesNothing}
 use Rattle.proposals.specs.Kinds.{Kind}
 
 -- what stands at a place that was read
-pub stands_at : {K : Type 0} (stands : List (PlaceState K)) (row : List (Place K)) → stands ≡ map place_state row → (i : ℕ) (x : Place K) → i < length row → x ≡ get_or row i x → slice_get stands i ≡ Some (place_state x)
+pub stands_at : {K : Type 0} (stands : List (PlaceState K)) (row : List (Place K)) → stands ≡ map place_state row → (i : ℕ) (x : Place K)
+    → i < length row → x ≡ get_or row i x → slice_get stands i ≡ Some (place_state x)
 stands_at stands row is i x l e = ap (λ r. slice_get r i) is ∙ slice_get-map place_state row i ∙ ap (option_map place_state) (slice_get_read row (length row) i x refl l e)
 
 pub not_resting : {K : Type 0} (x : Place K) → ((b : Resting K) → x ≡ place.Resting b → ⊥) → frame_at (Some (place_state x)) ≡ None
@@ -40,7 +41,9 @@ module _ {K : Type 0} (kind : Kind K) (s : State K) (goes : RefusesNothing kind 
   pub none_more : (i : ℕ) → frame_at (slice_get s.row i) ≡ None → posted_below i ≡ posted_below (i + 1)
   none_more i e = λ j. record s.wire { posted = λ q. at q (cases_eq q i) j }
     where
-      at : (q : ℕ) → (q ≡ i) ⊎ (q ≡ i → ⊥) → cond (ltb q i) (option_map (frame_bytes kind) (sent_frame s q)) None ≡ cond (ltb q (i + 1)) (option_map (frame_bytes kind) (sent_frame s q)) None
+      at : (q : ℕ) → (q ≡ i) ⊎ (q ≡ i → ⊥)
+          → cond (ltb q i) (option_map (frame_bytes kind) (sent_frame s q)) None
+          ≡ cond (ltb q (i + 1)) (option_map (frame_bytes kind) (sent_frame s q)) None
       at q (inl is) =
           let nothing : sent_frame s q ≡ None = ap (sent_frame s) is ∙ e in
           let t : ltb q i ≡ false = grind (arith, nat_tests) in
@@ -56,7 +59,8 @@ module _ {K : Type 0} (kind : Kind K) (s : State K) (goes : RefusesNothing kind 
         ∙ goes.posts i b here (posted_below i) refl refl (ap (λ t. cond t (option_map (frame_bytes kind) (sent_frame s i)) None) (let t : ltb i i ≡ false = grind (arith, nat_tests) in t))
         ∙ ap Ok (λ j. record s.wire { posted = λ q. at q (cases_eq q i) j })
       where
-        at : (q : ℕ) → (q ≡ i) ⊎ (q ≡ i → ⊥) → cond (eqb q i) (Some (frame_bytes kind (frame_of b))) (cond (ltb q i) (option_map (frame_bytes kind) (sent_frame s q)) None)
+        at : (q : ℕ) → (q ≡ i) ⊎ (q ≡ i → ⊥)
+            → cond (eqb q i) (Some (frame_bytes kind (frame_of b))) (cond (ltb q i) (option_map (frame_bytes kind) (sent_frame s q)) None)
             ≡ cond (ltb q (i + 1)) (option_map (frame_bytes kind) (sent_frame s q)) None
         at q (inl is) =
             let something : sent_frame s q ≡ Some (frame_of b) = ap (sent_frame s) is ∙ ap frame_at here in
@@ -79,10 +83,13 @@ module _ {K : Type 0} (kind : Kind K) (s : State K) (goes : RefusesNothing kind 
       both false true = refl
       both false false = refl
 
-      same : (q : ℕ) (t u : Bool) → sent_frame s q ≡ None → cond t (option_map (frame_bytes kind) (sent_frame s q)) None ≡ cond u (option_map (frame_bytes kind) (sent_frame s q)) None
+      same : (q : ℕ) (t u : Bool) → sent_frame s q ≡ None
+          → cond t (option_map (frame_bytes kind) (sent_frame s q)) None ≡ cond u (option_map (frame_bytes kind) (sent_frame s q)) None
       same q t u e = ap (λ o. cond t (option_map (frame_bytes kind) o) None) e ∙ both t u ∙ ap (λ o. cond u (option_map (frame_bytes kind) o) None) (sym e)
 
-      at : (q : ℕ) (o : Option (PlaceState K)) → slice_get s.row q ≡ o → cond (ltb q m) (option_map (frame_bytes kind) (sent_frame s q)) None ≡ cond (member s.wire.up q) (option_map (frame_bytes kind) (sent_frame s q)) None
+      at : (q : ℕ) (o : Option (PlaceState K)) → slice_get s.row q ≡ o
+          → cond (ltb q m) (option_map (frame_bytes kind) (sent_frame s q)) None
+          ≡ cond (member s.wire.up q) (option_map (frame_bytes kind) (sent_frame s q)) None
       at q None e = same q (ltb q m) (member s.wire.up q) (ap frame_at e)
       at q (Some (at_rest b)) e =
           let l = slice_get_within s.row q (at_rest b) e in

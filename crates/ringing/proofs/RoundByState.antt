@@ -1,4 +1,4 @@
--- A round: when it may be played, and its state as it is opened and as all have posted. Assumes nothing.
+-- A round: when it may be played, and its state as it is opened and as all have posted.
 use Rattle.std.proofs.Common.{◌≡◌, ℕ, ◌+◌, ◌<◌, ◌≤◌, true, false, List, Ok, Err, Result, refl, sym, arith}
 use Rattle.std.proofs.lemmas.Bool.Decides.{nat_tests}
 use Rattle.base.specs.declared.refusal.Refusal.{Refusal}
@@ -12,7 +12,8 @@ use Rattle.machine.specs.RoundCall.{wire_in_round, state_after_round, on_round}
 use Rattle.base.specs.Results.{answer}
 use Rattle.machine.specs.declared.place.Place.{Place}
 use Rattle.machine.specs.MachineLaws.{RefusesNothing, RoundRefusesNothing}
-use Rattle.ringing.specs.RingingStates.{state, InRound}
+use Rattle.ringing.specs.Exchanges.{InRound}
+use Rattle.ringing.specs.RingingStates.{state}
 use Rattle.proposals.specs.Kinds.{Kind}
 
 module _ {K : Type 0} (kind : Kind K) (room : ℕ) (s : State K) where
@@ -33,7 +34,8 @@ module _ {K : Type 0} (kind : Kind K) (room : ℕ) (s : State K) where
   play_ok b l o = grind (arith, nat_tests)
 
   -- what was checked
-  pub played_ok : Ok tt ≡ answer (on_round kind room s) → (bad_row s ≡ false) × (is_over s ≡ false) × (longest_frame ≤ room) × (on_round kind room s ≡ Ok (state_after_round kind s))
+  pub played_ok : Ok tt ≡ answer (on_round kind room s)
+      → (bad_row s ≡ false) × (is_over s ≡ false) × (longest_frame ≤ room) × (on_round kind room s ≡ Ok (state_after_round kind s))
   unfolding on_round
   played_ok e = (grind (arith, nat_tests), grind (arith, nat_tests), grind (arith, nat_tests), grind (arith, nat_tests))
 
@@ -61,7 +63,8 @@ state_same a b c d = λ j. record { wire = a j; t = b j; closed = c j; row = d j
 
 -- what a round may rely on, where the checks let it be played
 pub goes_on : {K : Type 0} (kind : Kind K) → RoundRefusesNothing kind
-    → (m : WireState) (t closed : ℕ) (row : List (Place K)) (room : ℕ) → IsWellFormed m → is_company m.n t ≡ true → Ok tt ≡ answer (on_round kind room (state m t closed row))
+    → (m : WireState) (t closed : ℕ) (row : List (Place K)) (room : ℕ) → IsWellFormed m → is_company m.n t ≡ true
+    → Ok tt ≡ answer (on_round kind room (state m t closed row))
     → RefusesNothing kind (state m t closed row)
 goes_on kind law m t closed row room formed size_ok ok =
     let p = played_ok kind room (state m t closed row) ok in law (state m t closed row) row refl formed size_ok p.0 p.1

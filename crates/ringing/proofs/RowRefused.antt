@@ -1,4 +1,4 @@
--- When a row is refused. Assumes nothing.
+-- When a row is refused.
 use Rattle.std.proofs.Common.{◌≡◌, ℕ, ◌<◌, ◌≤◌, Bool, true, false, not, ◌&&◌, eqb, ltb, List, length, map, Some, None, Option, option_map, refl, sym, ap, ◌∙◌, arith}
 use Rattle.std.specs.List.{slice_get}
 use Rattle.std.proofs.lemmas.Bool.Decides.{nat_tests}
@@ -28,7 +28,8 @@ pub not_false : (a b : Bool) → a ≡ not b → a ≡ false → b ≡ true
 not_false a b e is = grind arith
 
 -- the set of the boxes that are down or falling has as many
-pub gone_counted : (m : WireState) → IsWellFormed m → (s : BoxSet) → s ≡ set_of (λ q. ltb q m.n && is_gone m q) → count (member s) 32 ≡ gone_count m
+pub gone_counted : (m : WireState) → IsWellFormed m → (s : BoxSet) → s ≡ set_of (λ q. ltb q m.n && is_gone m q)
+    → count (member s) 32 ≡ gone_count m
 gone_counted m w s e = let f = few m w in ap (λ x. count (member x) 32) e ∙ company_count m.n (is_gone m) (omega arith)
 
 module _ {K : Type 0} (m : WireState) (t closed : ℕ) (row : List (Place K)) where
@@ -52,13 +53,15 @@ module _ {K : Type 0} (m : WireState) (t closed : ℕ) (row : List (Place K)) wh
       let n = numbered_some (is_misplaced s) s.row p (place_state x) (slice_get-map place_state row p ∙ ap (option_map place_state) at) e in
       grind arith
 
-  pub row_good : length row ≡ m.n → gone_count m ≤ t → ((p : ℕ) (x : Place K) → slice_get row p ≡ Some x → is_misplaced s p (place_state x) ≡ false) → bad_row s ≡ false
+  pub row_good : length row ≡ m.n → gone_count m ≤ t
+      → ((p : ℕ) (x : Place K) → slice_get row p ≡ Some x → is_misplaced s p (place_state x) ≡ false) → bad_row s ≡ false
   unfolding bad_row
   row_good len few fits =
       let l = length_same in
       let n = numbered_none (is_misplaced s) s.row (λ p x at. by p x (slice_get row p) (λ y. fits p y) (sym (slice_get-map place_state row p) ∙ at)) in
       grind (arith, nat_tests)
     where
-      by : (p : ℕ) (x : PlaceState K) (o : Option (Place K)) → ((y : Place K) → o ≡ Some y → is_misplaced s p (place_state y) ≡ false) → option_map place_state o ≡ Some x → is_misplaced s p x ≡ false
+      by : (p : ℕ) (x : PlaceState K) (o : Option (Place K)) → ((y : Place K) → o ≡ Some y → is_misplaced s p (place_state y) ≡ false)
+          → option_map place_state o ≡ Some x → is_misplaced s p x ≡ false
       by p x None f e = absurd (grind arith)
       by p x (Some y) f e = let same : place_state y ≡ x = cc in ap (is_misplaced s p) (sym same) ∙ f y refl

@@ -1,4 +1,4 @@
--- What the sets of a wire say of its meaning. Assumes nothing.
+-- What the sets of a wire say of its meaning.
 use Rattle.std.proofs.Common.{◌≡◌, ℕ, ◌^◌, ◌<◌, Bool, true, false, not, ◌&&◌, eqb, ltb, is_some, Some, None, Option, sym, refl, ap, ◌∙◌, arith}
 use Rattle.std.proofs.lemmas.Bool.{eqb-true, eq-eqb}
 use Rattle.std.proofs.lemmas.Bool.Decides.{nat_tests}
@@ -20,7 +20,8 @@ module _ (m : WireState) (w : IsWellFormed m) where
       by None is = absurd (grind arith)
       by (Some s) is = let f = w.falling q s is in (member_below m.n m.up q w.up_within f.0, f.0)
 
-  pub falling_member : (s : BoxSet) → s ≡ falling_set m → (q : ℕ) → q < 32 → (member s q ≡ is_some (m.lost q)) × (is_some (m.lost q) ≡ (ltb q m.n && is_some (m.lost q)))
+  pub falling_member : (s : BoxSet) → s ≡ falling_set m → (q : ℕ) → q < 32
+      → (member s q ≡ is_some (m.lost q)) × (is_some (m.lost q) ≡ (ltb q m.n && is_some (m.lost q)))
   falling_member s e q l =
       let p = lost_placed q in
       (member_is (λ i. is_some (m.lost i)) s e q l, grind (arith, nat_tests))
@@ -37,7 +38,8 @@ module _ (m : WireState) (w : IsWellFormed m) where
       grind (arith, nat_tests))
 
   -- whether a box is down or falling
-  pub some_gone : (s e : BoxSet) → s ≡ set_of (λ q. ltb q m.n && is_gone m q) → e ≡ set_of (λ _. false) → any (is_gone m) m.n ≡ not (eqb s.mask e.mask)
+  pub some_gone : (s e : BoxSet) → s ≡ set_of (λ q. ltb q m.n && is_gone m q) → e ≡ set_of (λ _. false)
+      → any (is_gone m) m.n ≡ not (eqb s.mask e.mask)
   some_gone s e is none = by (any (is_gone m) m.n) refl
     where
       one_gone : (k : ℕ) × (k < m.n) × (is_gone m k ≡ true) → eqb s.mask e.mask ≡ false

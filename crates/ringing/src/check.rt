@@ -1,4 +1,4 @@
-// What is checked before a call: the row, before each; and what a fall and a round ask besides.
+// What is checked before a call: the row before each, and more before a fall and a round.
 ghost use Rattle.std.specs.Prelude.{◌≡◌, not, ◌||◌, ◌&&◌, nat_lt, []};
 ghost use Rattle.sets.specs.Masks.{member, set_of};
 ghost use Rattle.wire.specs.WireState.{on_fall as wire_on_fall};
@@ -7,30 +7,32 @@ ghost use Rattle.machine.specs.Places.{place_state};
 ghost use Rattle.machine.specs.State.{is_gone};
 
 use super::ringing::Ringing;
+use base::Refusal;
 use boxes::Resting;
 use frames::LONGEST_FRAME;
-use proposals::Proposal;
-use base::Refusal;
 use machine::{Place, is_over};
+use proposals::Proposal;
 use sets::{BoxNumber, BoxSet, RoundNumber};
 use wire::Wire;
 
 // The boxes of the wire's company that are not up.
 fn down<W: Wire>(wire: &W) -> BoxSet
-    ensures { result ≡ set_of (λ q. nat_lt q (W.meaning wire.now).n && not (member (W.meaning wire.now).up q)) }
+    ensures { let m = W.meaning wire.now in
+        result ≡ set_of (λ q. nat_lt q m.n && not (member m.up q)) }
 {
     BoxSet::all_below(wire.n()).difference(wire.up())
 }
 
 // The boxes of the wire's company that are down or falling.
 pub(crate) fn gone<W: Wire>(wire: &W) -> BoxSet
-    ensures { result ≡ set_of (λ q. nat_lt q (W.meaning wire.now).n && is_gone (W.meaning wire.now) q) }
+    ensures { let m = W.meaning wire.now in
+        result ≡ set_of (λ q. nat_lt q m.n && is_gone m q) }
 {
     down(wire).union(wire.falling())
 }
 
-// Whether the wire lets box q fall with this lost set, or why not. Asked before it is told, since a fall cannot be taken back, and how
-// many have fallen counts after this.
+// Whether the wire lets box q fall with this lost set, or why not. It is asked before the wire is told, since a fall cannot be taken back
+// and how many boxes have fallen is judged after this.
 #[tactic(auto, unfolding(wire::specs::WireState::on_fall))]
 pub(crate) fn check_wire_fall<W: Wire>(wire: &W, q: BoxNumber, lost: BoxSet) -> Result<(), Refusal>
     ensures { result ≡ answer (wire_on_fall q.0 lost (W.meaning wire.now)) }

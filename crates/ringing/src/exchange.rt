@@ -1,4 +1,4 @@
-// What the boxes exchange in a round: each that is up posts its frame, and each that is not falling hears the others and closes.
+// What the boxes exchange in a round: each that is up posts its frame, and each that is up and not falling hears the others and closes.
 ghost use Rattle.std.specs.Prelude.{◌≡◌, ℕ, ◌<◌, ◌≤◌, length, map, Some, None, Ok};
 ghost use Rattle.std.specs.List.{slice_get};
 ghost use Rattle.std.specs.Result.{result_map_both, result_unwrap_or};
@@ -7,7 +7,6 @@ ghost use Rattle.boxes.specs.Boxes.{frame_of};
 ghost use Rattle.boxes.specs.BoxFaults.{refusal_of};
 ghost use Rattle.boxes.specs.BoxRounds.{on_hear, outcome};
 ghost use Rattle.boxes.specs.ByFrames.{outcome_by_frames};
-ghost use Rattle.wire.specs.WireState.{on_post, heard_frame};
 ghost use Rattle.base.specs.Results.{answer, or_kept};
 ghost use Rattle.machine.specs.declared.place.Place.TheVariants as place;
 ghost use Rattle.machine.specs.Places.{at_rest, place_state};
@@ -15,21 +14,26 @@ ghost use Rattle.base.specs.Numbered.{by_number};
 ghost use Rattle.machine.specs.State.{State};
 ghost use Rattle.machine.specs.RoundCall.{frames_heard_by, round_to_come, place_after, wire_in_round, state_after_round};
 ghost use Rattle.machine.specs.MachineLaws.{RefusesNothing};
-ghost use Rattle.ringing.specs.RingingStates.{InRound, notes_when_told};
+ghost use Rattle.ringing.specs.Exchanges.{InRound, on_own_post, notes_when_hearing};
 
+use base::Refusal;
 use boxes::{BoxFault, Closed, Listening, Resting, boxes_laws};
 use frames::LONGEST_FRAME;
-use proposals::Proposal;
-use base::Refusal;
 use machine::Place;
+use proposals::Proposal;
 use sets::{BoxNumber, RoundNumber};
 use wire::Wire;
 
 // A box at rest posts its frame.
-fn post_frame<W: Wire, K: Proposal>(wire: &mut W, b: Resting<K>, line: &mut [u8]) -> Result<(), Refusal>
+fn post_frame<W: Wire, K: Proposal>(
+    wire: &mut W,
+    b: Resting<K>,
+    line: &mut [u8],
+) -> Result<(), Refusal>
     requires room { LONGEST_FRAME ≤ length line.old }
-    ensures answer { result ≡ answer (on_post b.held.number.0 (frame_bytes K.kind (frame_of b.held)) (W.meaning wire.old)) }
-    ensures meaning { W.meaning wire.new ≡ or_kept (W.meaning wire.old) (on_post b.held.number.0 (frame_bytes K.kind (frame_of b.held)) (W.meaning wire.old)) }
+    ensures answer { result ≡ answer (on_own_post K.kind b.held (W.meaning wire.old)) }
+    ensures meaning { let m = W.meaning wire.old in
+        W.meaning wire.new ≡ or_kept m (on_own_post K.kind b.held m) }
 {
     boxes_laws::<K>();
     let length = b.compose(line)?;
@@ -39,8 +43,12 @@ fn post_frame<W: Wire, K: Proposal>(wire: &mut W, b: Resting<K>, line: &mut [u8]
 // Tells a listening box what was posted.
 fn tell<K: Proposal>(listening: &mut Listening<K>, frame: &[u8]) -> Result<(), Refusal>
     ensures resting { listening.new.resting ≡ listening.old.resting }
-    ensures answer { result ≡ result_map_both (λ _. tt) refusal_of (on_hear K.kind listening.old.resting.held listening.old.notes frame.now) }
-    ensures notes { listening.new.notes ≡ result_unwrap_or (on_hear K.kind listening.old.resting.held listening.old.notes frame.now) listening.old.notes }
+    ensures answer { let now = listening.old in
+        let heard = on_hear K.kind now.resting.held now.notes frame.now in
+        result ≡ result_map_both (λ _. tt) refusal_of heard }
+    ensures notes { let now = listening.old in
+        let heard = on_hear K.kind now.resting.held now.notes frame.now in
+        listening.new.notes ≡ result_unwrap_or heard now.notes }
 {
     listening.hear(frame).map_err(BoxFault::refusal)
 }
@@ -55,8 +63,15 @@ fn hear_box<W: Wire, K: Proposal>(
     requires room { LONGEST_FRAME ≤ length line.old }
     requires sender { q.0 < (W.meaning wire.now).n }
     ensures resting { listening.new.resting ≡ listening.old.resting }
-    ensures answer { listening.old.resting.held.number.0 < (W.meaning wire.now).n → result ≡ result_map_both (λ _. tt) (λ e. e) (notes_when_told K.kind listening.old.resting.held listening.old.notes (heard_frame (W.meaning wire.now) listening.old.resting.held.number.0 q.0)) }
-    ensures notes { listening.old.resting.held.number.0 < (W.meaning wire.now).n → listening.new.notes ≡ result_unwrap_or (notes_when_told K.kind listening.old.resting.held listening.old.notes (heard_frame (W.meaning wire.now) listening.old.resting.held.number.0 q.0)) listening.old.notes }
+    ensures answer { let m = W.meaning wire.now in
+        let now = listening.old in
+        now.resting.held.number.0 < m.n
+        → result ≡ answer (notes_when_hearing K.kind m now.resting.held now.notes q.0) }
+    ensures notes { let m = W.meaning wire.now in
+        let now = listening.old in
+        now.resting.held.number.0 < m.n
+        → listening.new.notes
+        ≡ or_kept now.notes (notes_when_hearing K.kind m now.resting.held now.notes q.0) }
 {
     match wire.fetch(listening.number(), q, line)? {
         Some(length) => tell(listening, &line[..length]),
@@ -71,7 +86,11 @@ fn close_box<W: Wire, K: Proposal>(
     line: &mut [u8],
 ) -> Result<Closed<K>, Refusal>
     requires room { LONGEST_FRAME ≤ length line.old }
-    ensures { (s : State K) → InRound K.kind (W.meaning wire.now) s → slice_get s.row b.held.number.0 ≡ Some (at_rest b.held) → result_map_both outcome (λ e. e) result ≡ Ok (outcome_by_frames K.kind b.held (frames_heard_by s b.held.number.0)) }
+    ensures { let p = b.held.number.0 in
+        (s : State K) → InRound K.kind (W.meaning wire.now) s
+        → slice_get s.row p ≡ Some (at_rest b.held)
+        → result_map_both outcome (λ e. e) result
+        ≡ Ok (outcome_by_frames K.kind b.held (frames_heard_by s p)) }
 {
     let mut listening = b.open();
     for q in 0..wire.n() {
@@ -92,7 +111,9 @@ fn post_frames<W: Wire, K: Proposal>(
     line: &mut [u8],
 ) -> Result<(), Refusal>
     requires room { LONGEST_FRAME ≤ length line.old }
-    ensures { (s : State K) → s.wire ≡ W.meaning wire.old → s.row ≡ map place_state row.now → RefusesNothing K.kind s → ((q : ℕ) → s.wire.posted q ≡ None) → (result ≡ Ok tt) × (W.meaning wire.new ≡ wire_in_round K.kind s) }
+    ensures { (s : State K) → s.wire ≡ W.meaning wire.old → s.row ≡ map place_state row.now
+        → RefusesNothing K.kind s → ((q : ℕ) → s.wire.posted q ≡ None)
+        → (result ≡ Ok tt) × (W.meaning wire.new ≡ wire_in_round K.kind s) }
 {
     for place in row {
         if let Place::Resting(b) = place {
@@ -102,7 +123,7 @@ fn post_frames<W: Wire, K: Proposal>(
     Ok(())
 }
 
-// What stands at a place after the round: a box that falls is down since it, and another has closed it.
+// What stands at a place after the round: a box at rest that falls is down since this round, and any other at rest has closed it.
 fn place_after<W: Wire, K: Proposal>(
     wire: &W,
     round: RoundNumber,
@@ -110,7 +131,11 @@ fn place_after<W: Wire, K: Proposal>(
     line: &mut [u8],
 ) -> Result<Place<K>, Refusal>
     requires room { LONGEST_FRAME ≤ length line.old }
-    ensures { (s : State K) (p : ℕ) → InRound K.kind (W.meaning wire.now) s → round ≡ round_to_come s → slice_get s.row p ≡ Some (place_state place) → result_map_both place_state (λ e. e) result ≡ Ok (place_after K.kind s p (place_state place)) }
+    ensures { (s : State K) (p : ℕ) → InRound K.kind (W.meaning wire.now) s
+        → round ≡ round_to_come s
+        → slice_get s.row p ≡ Some (place_state place)
+        → result_map_both place_state (λ e. e) result
+        ≡ Ok (place_after K.kind s p (place_state place)) }
 {
     match place {
         Place::Resting(b) => {
@@ -131,7 +156,9 @@ fn close_boxes<W: Wire, K: Proposal>(
     line: &mut [u8],
 ) -> Result<(), Refusal>
     requires room { LONGEST_FRAME ≤ length line.old }
-    ensures { (s : State K) → InRound K.kind (W.meaning wire.now) s → round ≡ round_to_come s → s.row ≡ map place_state row.old → (result ≡ Ok tt) × (map place_state row.new ≡ by_number (place_after K.kind s) s.row) }
+    ensures { (s : State K) → InRound K.kind (W.meaning wire.now) s → round ≡ round_to_come s
+        → s.row ≡ map place_state row.old
+        → (result ≡ Ok tt) × (map place_state row.new ≡ by_number (place_after K.kind s) s.row) }
 {
     for place in row.iter_mut() {
         *place = place_after(wire, round, *place, line)?;
@@ -147,7 +174,11 @@ pub(crate) fn exchange_frames<W: Wire, K: Proposal>(
     line: &mut [u8],
 ) -> Result<(), Refusal>
     requires room { LONGEST_FRAME ≤ length line.old }
-    ensures { (s : State K) → s.wire ≡ W.meaning wire.old → s.row ≡ map place_state row.old → round ≡ round_to_come s → RefusesNothing K.kind s → (result ≡ Ok tt) × (W.meaning wire.new ≡ (state_after_round K.kind s).wire) × (map place_state row.new ≡ (state_after_round K.kind s).row) }
+    ensures { (s : State K) → s.wire ≡ W.meaning wire.old → s.row ≡ map place_state row.old
+        → round ≡ round_to_come s → RefusesNothing K.kind s
+        → (result ≡ Ok tt)
+        × (W.meaning wire.new ≡ (state_after_round K.kind s).wire)
+        × (map place_state row.new ≡ (state_after_round K.kind s).row) }
 {
     wire.open();
     post_frames(wire, row, line)?;

@@ -1,7 +1,7 @@
-// The line bytes of a round, which are all zero again when the round lets them go.
+// The line bytes of a round, all zero again once the round is over.
 ghost use Rattle.std.specs.Prelude.{◌≡◌, length, replicate};
 
-// Holds the line bytes, and nothing else.
+// Holds the line bytes of a round, and writes zeros over them when it is let go.
 pub(crate) struct LineGuard<'a> {
     pub bytes: &'a mut [u8],
 }

@@ -1,4 +1,4 @@
-// The ringing: the boxes of a company over a wire, from the making to the round in which they ring, and their strike orders.
+//! The ringing: the boxes of a company over a wire, from the making to the round in which they ring, and their strike orders.
 #![tactic(auto)]
 
 mod check;

@@ -6,10 +6,10 @@ ghost use Rattle.machine.specs.MakeCall.{on_make, first_row};
 ghost use Rattle.base.specs.Results.{answer};
 
 use super::check::gone;
-use boxes::Resting;
-use proposals::Proposal;
 use base::Refusal;
+use boxes::Resting;
 use machine::Place;
+use proposals::Proposal;
 use sets::{BoxNumber, BoxSet, is_company};
 use wire::Wire;
 
@@ -36,7 +36,7 @@ fn check_make<W: Wire, K: Proposal>(
     Ok(())
 }
 
-// By itself, since the prover bounds the place in memory of an element of unknown size only in a function that does no more.
+// Puts this at place p. By itself, since the prover bounds where an element of unknown size lies only in a function that does no more.
 pub(crate) fn put<K: Proposal>(row: &mut [Place<K>], p: usize, place: Place<K>)
     requires { p < length row.old }
     ensures { row.new ≡ set row.old p place }
@@ -52,7 +52,8 @@ pub(crate) fn set_up<W: Wire, K: Proposal>(
     row: &mut [Place<K>],
     proposals: &[K],
 ) -> Result<(), Refusal>
-    ensures answer { result ≡ answer (on_make n t (W.meaning wire.now) (length row.old) proposals.now) }
+    ensures answer { let m = W.meaning wire.now in
+        result ≡ answer (on_make n t m (length row.old) proposals.now) }
     ensures row { OnOk result (map place_state row.new ≡ first_row n t proposals.now) }
     ensures refused { OnErr result (row.new ≡ row.old) }
     ensures company { OnOk result (is_company (W.meaning wire.now).n t ≡ true) }

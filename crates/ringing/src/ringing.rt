@@ -1,16 +1,17 @@
-// A ringing: made over a wire, told of falls, asked. Its row is handed to each call.
+// The ringing: it is made over a wire, told of falls, and asked.
 ghost use Rattle.std.specs.Prelude.{◌≡◌, true};
 ghost use Rattle.sets.specs.Companies.{is_company};
 
 use super::make::set_up;
-use proposals::Proposal;
 use base::{Refusal, Refused};
 use machine::{Place, Standing};
 use promise::promise_laws;
+use proposals::Proposal;
 use sets::{BoxNumber, BoxSet};
 use wire::Wire;
 
-// It holds the wire; the row of its boxes is the caller's.
+/// A ringing: it holds its wire, how many boxes may fall, and how many rounds are closed. The row of its boxes, one place for each, is the
+/// caller's and is handed to each call; a call refuses row (12) where the row is not this ringing's as it stands.
 #[derive(Drop, Debug)]
 pub struct Ringing<W: Wire> {
     pub(crate) wire: W,
@@ -18,6 +19,7 @@ pub struct Ringing<W: Wire> {
     pub(crate) t: u32,
     // How many rounds are closed.
     pub(crate) closed: u32,
+    // The boxes that the wire joins and t are within the limits of a company.
     ghost company: { is_company (W.meaning wire).n t ≡ true },
 }
 
@@ -36,12 +38,17 @@ impl<W: Wire> Ringing<W> {
     ghost use Rattle.promise.specs.PromiseLaws.{IsPromised};
     ghost use Rattle.ringing.specs.RingingStates.{state_of};
 
-    // Makes a ringing of n boxes, of which t may fall, over a wire, and sets up a new box with its proposal in each place of the
-    // row. A refused make gives the wire back and leaves the row as it was. After an accepted one and any calls, accepted or refused, each
-    // handed the row as the call before left it, and by what they and their answers tell: the ringing and its row are those of the rule. The boxes
-    // that ring are just those that closed round t + 1 - D, and they ring in that round, on one proposal. It is the estimate that each reaches; a box
-    // proposed it, and no ringing box proposed one that goes before it. Of each box an order is handed out at most once, and each order is given
-    // back at most once, and only if it was handed out. What stands for proposals past the end of the list, `past_end`, does not count.
+    /// Makes a ringing of n boxes, of which t may fall, over a wire, and sets up a new box with its proposal in each place of the row.
+    ///
+    /// It refuses company (11) if n or t is outside its limits, row (12) if there are not n places or not n proposals, and wire (13) if the
+    /// wire does not join n boxes or one of them is down or falling, in this order. A refused make gives the wire back and leaves the row as
+    /// it was.
+    ///
+    /// After an accepted make come any calls, accepted or refused, each handed the row as the call before left it. By these calls and their
+    /// answers the ringing and its row are those of the rule. The boxes that ring are just those that closed round t + 1 - D, and they ring in
+    /// that round, on one proposal: it is the estimate that each of them reaches, a box proposed it, and no ringing box proposed one that goes
+    /// before it. Of each box an order is handed out at most once, and each order is given back at most once, and only if it was handed out.
+    /// The clause takes any value `past_end` for what stands past the end of the proposals.
     pub fn make<K: Proposal>(
         n: u32,
         t: u32,
@@ -49,9 +56,15 @@ impl<W: Wire> Ringing<W> {
         row: &mut [Place<K>],
         proposals: &[K],
     ) -> Result<Ringing<W>, Refused<W, Refusal>>
-        ensures answer { result_map_both (λ r. state_of r row.new) (λ e. e) result ≡ map_fault (refused_with wire) (on_make n t (W.meaning wire) (length row.old) proposals.now) }
+        ensures answer { let m = W.meaning wire in
+            result_map_both (λ r. state_of r row.new) (λ e. e) result
+            ≡ map_fault (refused_with wire) (on_make n t m (length row.old) proposals.now) }
         ensures refused { OnErr result (row.new ≡ row.old) }
-        ensures promised { let m = W.meaning wire in IfOk (on_make n t m (length row.old) proposals.now) (λ s. (past_end : K) (calls : List Request) → IsPromised K.kind m.posted calls s (undrawn_log (first_history n t proposals.now past_end))) }
+        ensures promised { let m = W.meaning wire in
+            IfOk (on_make n t m (length row.old) proposals.now) (λ s.
+            (past_end : K) (calls : List Request) →
+            let log = undrawn_log (first_history n t proposals.now past_end) in
+            IsPromised K.kind m.posted calls s log) }
     {
         promise_laws::<K>();
         match set_up(n, t, &wire, row, proposals) {
@@ -60,14 +73,19 @@ impl<W: Wire> Ringing<W> {
         }
     }
 
-    // The wire, to look at: after a round what was posted in it stands there.
+    /// The wire, lent to look at. After a round the frames on it are those of that round, and before the first those that stood there as the
+    /// ringing was made.
     pub fn wire(&self) -> &W
         ensures { result.now ≡ self.now.wire }
     {
         &self.wire
     }
 
-    // Tells that box q falls in the round to come, in which the boxes of its lost set do not hear it.
+    /// Tells that box q falls in the round to come, in which the boxes of its lost set do not hear it.
+    ///
+    /// It refuses, in this order: row (12); over (16) if a box of the row rings; stranger (5) if q is not below n; set (8) if the lost set has
+    /// a number not below n, or q itself; down (14) if q is down or falling; spent (15) if t boxes are down or falling. A refused call leaves
+    /// the ringing as it was.
     pub fn fall<K: Proposal>(
         &mut self,
         row: &[Place<K>],
@@ -75,18 +93,22 @@ impl<W: Wire> Ringing<W> {
         lost: BoxSet,
     ) -> Result<(), Refusal>
         ensures answer { let s = state_of self.old row.now in result ≡ answer (on_fall q lost s) }
-        ensures steps { let s = state_of self.old row.now in StepsTo K.kind (request.Fall q lost) s (done_answer result) (state_of self.new row.now) }
+        ensures steps { let s = state_of self.old row.now in
+            let call = request.Fall q lost in
+            StepsTo K.kind call s (done_answer result) (state_of self.new row.now) }
         ensures refused { OnErr result (self.new ≡ self.old) }
     {
         self.check_fall(row, q, lost)?;
         self.wire.fall(q, lost)
     }
 
-    // What is told of box p.
+    /// What is told of box p: that it is up, down since a round, or rings, and then how far its blow has come. It refuses row (12), and then
+    /// stranger (5) if p is not below n.
     #[tactic(auto, using(crate::proofs::RowRefused::shown_at), unfolding(machine::specs::AskCall::on_ask))]
     pub fn ask<K: Proposal>(&self, row: &[Place<K>], p: BoxNumber) -> Result<Standing<K>, Refusal>
         ensures answer { result ≡ on_ask p (state_of self.now row.now) }
-        ensures steps { let s = state_of self.now row.now in StepsTo K.kind (request.Ask p) s (told_answer result) s }
+        ensures steps { let s = state_of self.now row.now in
+            StepsTo K.kind (request.Ask p) s (told_answer result) s }
     {
         self.check_row(row)?;
         match row.get(p.0 as usize) {

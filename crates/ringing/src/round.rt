@@ -4,9 +4,9 @@ ghost use Rattle.std.specs.Prelude.{◌≡◌, length, replicate, OnErr};
 use super::exchange::exchange_frames;
 use super::guard::LineGuard;
 use super::ringing::Ringing;
-use proposals::Proposal;
 use base::Refusal;
 use machine::{Place, machine_laws};
+use proposals::Proposal;
 use sets::RoundNumber;
 use wire::Wire;
 
@@ -17,11 +17,22 @@ impl<W: Wire> Ringing<W> {
     ghost use Rattle.promise.specs.CallSteps.{done_answer, StepsTo};
     ghost use Rattle.ringing.specs.RingingStates.{state_of};
 
-    // Plays a round: every box that is up posts its frame, every box that is not falling hears the others and closes, and those that
-    // are falling are then down. It needs line bytes for the longest frame; on every way out they are all zero.
-    pub fn round<K: Proposal>(&mut self, row: &mut [Place<K>], line: &mut [u8]) -> Result<(), Refusal>
-        ensures answer { let s = state_of self.old row.old in result ≡ answer (on_round K.kind (length line.old) s) }
-        ensures steps { let s = state_of self.old row.old in StepsTo K.kind (request.Round (length line.old)) s (done_answer result) (state_of self.new row.new) }
+    /// Plays a round: every box that is up posts its frame, every box that is up and not falling hears the others and closes the round, and
+    /// those that are falling are then down.
+    ///
+    /// It refuses, in this order: row (12); narrow (19) if there are fewer line bytes than the longest frame takes (`LONGEST_FRAME`); over (16)
+    /// if a box of the row rings. A refused call leaves the ringing and the row as they were. The line bytes are all zero afterwards, also
+    /// where it refuses.
+    pub fn round<K: Proposal>(
+        &mut self,
+        row: &mut [Place<K>],
+        line: &mut [u8],
+    ) -> Result<(), Refusal>
+        ensures answer { let s = state_of self.old row.old in
+            result ≡ answer (on_round K.kind (length line.old) s) }
+        ensures steps { let s = state_of self.old row.old in
+            let call = request.Round (length line.old) in
+            StepsTo K.kind call s (done_answer result) (state_of self.new row.new) }
         ensures refused { OnErr result ((self.new ≡ self.old) × (row.new ≡ row.old)) }
         ensures line { line.new ≡ replicate (length line.old) 0 }
     {
@@ -31,8 +42,10 @@ impl<W: Wire> Ringing<W> {
 
     // The same, whatever the line bytes hold afterwards.
     fn play<K: Proposal>(&mut self, row: &mut [Place<K>], line: &mut [u8]) -> Result<(), Refusal>
-        ensures answer { let s = state_of self.old row.old in result ≡ answer (on_round K.kind (length line.old) s) }
-        ensures state { let s = state_of self.old row.old in state_of self.new row.new ≡ or_kept s (on_round K.kind (length line.old) s) }
+        ensures answer { let s = state_of self.old row.old in
+            result ≡ answer (on_round K.kind (length line.old) s) }
+        ensures state { let s = state_of self.old row.old in
+            state_of self.new row.new ≡ or_kept s (on_round K.kind (length line.old) s) }
         ensures refused { OnErr result ((self.new ≡ self.old) × (row.new ≡ row.old)) }
         ensures line { length line.new ≡ length line.old }
     {

@@ -3,7 +3,7 @@ use Rattle.std.specs.List.{slice_get}
 use Rattle.boxes.proofs.NotesShowFrames.{Shows}
 use Rattle.machine.specs.Places.{at_rest}
 use Rattle.machine.specs.State.{State}
-use Rattle.ringing.specs.RingingStates.{InRound}
+use Rattle.ringing.specs.Exchanges.{InRound}
 use Rattle.ringing.proofs.HearOneByOne.{heard_below}
 use Rattle.ringing.proofs.exchange.close_box.Given as goal
 

@@ -2,7 +2,7 @@ use Rattle.std.proofs.Common.{◌≡◌, map}
 use Rattle.machine.specs.Places.{place_state}
 use Rattle.machine.specs.State.{State}
 use Rattle.machine.specs.RoundCall.{round_to_come, place_after}
-use Rattle.ringing.specs.RingingStates.{InRound}
+use Rattle.ringing.specs.Exchanges.{InRound}
 use Rattle.ringing.proofs.PlaceAfterRound.{Done}
 use Rattle.ringing.proofs.exchange.close_boxes.Given as goal
 

@@ -3,7 +3,7 @@ use Rattle.std.specs.Result.{result_map_both, result_unwrap_or}
 use Rattle.boxes.specs.BoxFaults.{refusal_of}
 use Rattle.boxes.specs.BoxRounds.{on_hear}
 use Rattle.wire.specs.WireState.{heard_frame}
-use Rattle.ringing.specs.RingingStates.{notes_when_told}
+use Rattle.ringing.specs.Exchanges.{notes_when_told}
 use Rattle.ringing.proofs.FetchInRoom.{fetched_never, fetched_none, fetched_some, taken_length, told_again, kept_again}
 use Rattle.ringing.proofs.exchange.hear_box.Goals as goal
 
