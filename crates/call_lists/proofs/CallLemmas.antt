@@ -1,4 +1,4 @@
--- Calls, as they are made. Assumes nothing.
+-- Calls, as they are made.
 use Rattle.std.proofs.Common.{◌≡◌, ℕ, ◌+◌, ◌<◌, ◌≤◌, Bool, true, false, cond, min, ltb, List, [], ◌∷◌, ◌++◌, length, get_or, set, take, drop, is_some, Some, None, Ok, Err, Option, option_map, Result, sym, refl, ap, ◌∙◌, subst, arith}
 use Rattle.std.specs.List.{slice_get}
 use Rattle.std.proofs.lemmas.Bool.Decides.{nat_tests}
@@ -25,11 +25,13 @@ use Rattle.call_lists.proofs.SlotLemmas.{orders_get}
 use Rattle.proposals.specs.Kinds.{Kind}
 
 -- a round counts its line bytes only up to the longest frame
-pub playing_room : {K : Type 0} (kind : Kind K) (a b : ℕ) (s : State K) → ltb a longest_frame ≡ ltb b longest_frame → on_round kind a s ≡ on_round kind b s
+pub playing_room : {K : Type 0} (kind : Kind K) (a b : ℕ) (s : State K) → ltb a longest_frame ≡ ltb b longest_frame
+    → on_round kind a s ≡ on_round kind b s
 unfolding on_round
 playing_room kind a b s e = grind (arith, e)
 
-pub room_same : (line : List ℕ) (m room : ℕ) → length line ≡ longest_frame → m ≡ min room longest_frame → ltb (length (take m line)) longest_frame ≡ ltb room longest_frame
+pub room_same : (line : List ℕ) (m room : ℕ) → length line ≡ longest_frame → m ≡ min room longest_frame
+    → ltb (length (take m line)) longest_frame ≡ ltb room longest_frame
 room_same line m room full is = let l = length-take m line in grind (arith, nat_tests)
 
 -- ---- a round leaves the orders: before it none is out, and no box that begins to ring has drawn one
@@ -45,7 +47,8 @@ module _ {K : Type 0} (kind : Kind K) (room : ℕ) (s : State K) where
   order_after p (down r) = refl
   order_after p (rung x) = refl
 
-  at_place : (p : ℕ) (o : Option (PlaceState K)) → option_map (order_out p) (option_map (place_after kind s p) o) ≡ option_map (order_out p) o
+  at_place : (p : ℕ) (o : Option (PlaceState K))
+      → option_map (order_out p) (option_map (place_after kind s p) o) ≡ option_map (order_out p) o
   at_place p None = refl
   at_place p (Some x) = ap Some (order_after p x)
 
@@ -79,7 +82,8 @@ module _ {K : Type 0} (kind : Kind K) (calls : List Request) (answers : List (An
       ∙ append_assoc (take i answers) (answer_to kind call s ∷ []) (answers_to kind more (state_after_call kind call s))
       ∙ ap (λ c. take i answers ++ answers_to kind c s) (sym (drop_more calls i x inside))
 
-  pub rest_on : (first : List (Answer K)) → drop i answers ≡ drop i first → drop (i + 1) (set answers i (answer_to kind call s)) ≡ drop (i + 1) first
+  pub rest_on : (first : List (Answer K)) → drop i answers ≡ drop i first
+      → drop (i + 1) (set answers i (answer_to kind call s)) ≡ drop (i + 1) first
   rest_on first same =
       drop-set-lt (i + 1) answers i (answer_to kind call s) (omega arith) ∙ sym (drop-drop 1 i answers) ∙ ap (drop 1) same ∙ drop-drop 1 i first
 
@@ -89,7 +93,8 @@ module _ {K : Type 0} (kind : Kind K) (calls : List Request) (i : ℕ) (done : l
   unfolding state_after
   ends_so = ap (λ c. state_after kind c s) (drop_all i calls done)
 
-  pub answers_so : (answers first : List (Answer K)) (all : List (Answer K)) → i ≡ length calls → take i answers ++ answers_to kind (drop i calls) s ≡ all → drop i answers ≡ drop i first
+  pub answers_so : (answers first : List (Answer K)) (all : List (Answer K)) → i ≡ length calls
+      → take i answers ++ answers_to kind (drop i calls) s ≡ all → drop i answers ≡ drop i first
       → answers ≡ all ++ drop (length calls) first
   unfolding answers_to
   answers_so answers first all at is rest =
@@ -99,7 +104,8 @@ module _ {K : Type 0} (kind : Kind K) (calls : List Request) (i : ℕ) (done : l
 -- ---- what is promised of the calls, of whatever making and calls led up to them
 
 pub goes_on : {K : Type 0} (kind : Kind K) → CallsArePromised kind
-    → (calls : List Request) (s end : State K) (answers rest : List (Answer K)) → end ≡ state_after kind calls s → answers ≡ answers_to kind calls s ++ rest
+    → (calls : List Request) (s end : State K) (answers rest : List (Answer K)) → end ≡ state_after kind calls s
+    → answers ≡ answers_to kind calls s ++ rest
     → HoldsFromMake kind s (λ unopened course. let then = log_after calls answers course in FollowsRule kind unopened end then × OneRing kind end then.history)
 goes_on {K} kind promised calls s end answers rest ends told n t places m proposals first formed made past_end before is =
     subst (λ x. Both x then) state_is (subst (λ y. Both (state_after kind (before ++ calls) first) y) course_is (whole.follows, whole.one_ring))
@@ -119,7 +125,8 @@ goes_on {K} kind promised calls s end answers rest ends told n t places m propos
     state_is : state_after kind (before ++ calls) first ≡ end
     state_is = after-append kind before calls first ∙ ap (state_after kind calls) (sym is) ∙ sym ends
 
-    course_is : log_after (before ++ calls) (answers_to kind (before ++ calls) first) (undrawn_log (first_history n t proposals past_end)) ≡ then
+    course_is : log_after (before ++ calls) (answers_to kind (before ++ calls) first) (undrawn_log (first_history n t proposals past_end))
+        ≡ then
     course_is =
         course-append kind before calls first (undrawn_log (first_history n t proposals past_end))
         ∙ ap (λ x. log_after calls (answers_to kind calls x) begun) (sym is)

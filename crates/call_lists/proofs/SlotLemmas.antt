@@ -1,4 +1,4 @@
--- The orders in hand beside a row. Assumes nothing.
+-- The orders in hand beside a row.
 use Rattle.base.specs.declared.refused.Refused.{Refused}
 use Rattle.std.specs.Bool.{⊤}
 use Rattle.std.proofs.Common.{◌≡◌, ℕ, zero, suc, ◌<◌, Bool, true, false, cond, not, ◌&&◌, eqb, ◌⊎◌, List, [], ◌∷◌, length, map, set, get_or, Some, None, Ok, Err, Option, option_map, Result, sym, refl, ap, ◌∙◌, subst, inl, inr, ◌≤◌, arith}
@@ -35,21 +35,26 @@ module _ {K : Type 0} (row : List (Place K)) (orders : List (Option StrikeOrder)
   short_not e = let l = length-map row place_state in grind (arith, nat_tests)
 
   -- one that is not the order of its box
-  pub other_not : (p : ℕ) (x : Place K) → slice_get row p ≡ Some x → same_order (order_out p (place_state x)) (get_or orders p None) ≡ false → false ≡ are_out (map place_state row) orders
+  pub other_not : (p : ℕ) (x : Place K) → slice_get row p ≡ Some x → same_order (order_out p (place_state x)) (get_or orders p None) ≡ false
+      → false ≡ are_out (map place_state row) orders
   unfolding are_out
   other_not p x at e =
       let n = numbered_some (λ p x. not (same_order (order_out p x) (get_or orders p None))) (map place_state row) p (place_state x) (slice_get-map place_state row p ∙ ap (option_map place_state) at) (ap not e) in
       grind arith
 
   -- each is
-  pub all_are : length row ≡ length orders → ((p : ℕ) (x : Place K) → slice_get row p ≡ Some x → same_order (order_out p (place_state x)) (get_or orders p None) ≡ true) → true ≡ are_out (map place_state row) orders
+  pub all_are : length row ≡ length orders
+      → ((p : ℕ) (x : Place K) → slice_get row p ≡ Some x → same_order (order_out p (place_state x)) (get_or orders p None) ≡ true)
+      → true ≡ are_out (map place_state row) orders
   unfolding are_out
   all_are len fit =
       let l = length-map row place_state in
       let n = numbered_none (λ p x. not (same_order (order_out p x) (get_or orders p None))) (map place_state row) (λ p x at. by p x (slice_get row p) (λ y. fit p y) (sym (slice_get-map place_state row p) ∙ at)) in
       grind (arith, nat_tests)
     where
-      by : (p : ℕ) (x : PlaceState K) (o : Option (Place K)) → ((y : Place K) → o ≡ Some y → same_order (order_out p (place_state y)) (get_or orders p None) ≡ true) → option_map place_state o ≡ Some x
+      by : (p : ℕ) (x : PlaceState K) (o : Option (Place K))
+          → ((y : Place K) → o ≡ Some y → same_order (order_out p (place_state y)) (get_or orders p None) ≡ true)
+          → option_map place_state o ≡ Some x
           → not (same_order (order_out p x) (get_or orders p None)) ≡ false
       by p x None f e = absurd (grind arith)
       by p x (Some y) f e = let same : place_state y ≡ x = cc in ap (λ z. not (same_order (order_out p z) (get_or orders p None))) (sym same) ∙ ap not (f y refl)
@@ -109,7 +114,8 @@ module _ {K : Type 0} (s : State K) (p : ℕ) (b : Blow) (x : Rung K) (there : s
       same q (Some y) = refl
 
       by : (q : ℕ) → (eqb q p ≡ true) ⊎ (eqb q p ≡ false)
-          → cond (eqb q p) (Some (order_out p (rung (record x { blow = b })))) (option_map (order_out q) (slice_get s.row q)) ≡ option_map (order_out q) (option_map (f q) (slice_get s.row q))
+          → cond (eqb q p) (Some (order_out p (rung (record x { blow = b })))) (option_map (order_out q) (slice_get s.row q))
+          ≡ option_map (order_out q) (option_map (f q) (slice_get s.row q))
       by q (inl e) =
           let own = eqb-true q p e in
           let at : slice_get s.row q ≡ Some (rung x) = ap (slice_get s.row) own ∙ there in
@@ -162,7 +168,9 @@ module _ {K : Type 0} (s : State K) (p : BoxNumber) (r : RoundNumber) where
       by (Some (down f)) = refl
       by (Some (rung x)) = at (is_out x.blow)
         where
-          at : (t : Bool) → is_order p.0 r (option_map (λ k. record { number = record { 0 = p.0 }; round = k }) (cond t (Some x.round) None)) ≡ (t && eqb x.round.0 r.0)
+          at : (t : Bool)
+              → is_order p.0 r (option_map (λ k. record { number = record { 0 = p.0 }; round = k }) (cond t (Some x.round) None))
+              ≡ (t && eqb x.round.0 r.0)
           at true = let own : eqb p.0 p.0 ≡ true = grind (arith, nat_tests) in ap (λ t. t && eqb x.round.0 r.0) own
           at false = refl
 
@@ -177,7 +185,8 @@ module _ {K : Type 0} (s : State K) (p : BoxNumber) (r : RoundNumber) where
   was_taken : (o : StrikeOrder) → Some o ≡ order_in_hand p r (orders_out s.row) → Taken o
   was_taken o e = by (slot_at (orders_out s.row) p) refl (cases_Bool (is_order p.0 r (slot_at (orders_out s.row) p)))
     where
-      by : (x : Option StrikeOrder) → slot_at (orders_out s.row) p ≡ x → (is_order p.0 r (slot_at (orders_out s.row) p) ≡ true) ⊎ (is_order p.0 r (slot_at (orders_out s.row) p) ≡ false) → Taken o
+      by : (x : Option StrikeOrder) → slot_at (orders_out s.row) p ≡ x
+          → (is_order p.0 r (slot_at (orders_out s.row) p) ≡ true) ⊎ (is_order p.0 r (slot_at (orders_out s.row) p) ≡ false) → Taken o
       by x at (inr off) = absurd (let f : Some o ≡ None = e ∙ ap (λ t. cond t (slot_at (orders_out s.row) p) None) off in grind arith)
       by None at (inl is) = absurd (let f : is_order p.0 r None ≡ true = ap (is_order p.0 r) (sym at) ∙ is in grind arith)
       by (Some x) at (inl is) =
@@ -195,10 +204,12 @@ module _ {K : Type 0} (s : State K) (p : BoxNumber) (r : RoundNumber) where
           }
 
   -- or nothing is, and the orders stay
-  not_taken : None ≡ order_in_hand p r (orders_out s.row) → (is_out_in r (slice_get s.row p.0) ≡ false) × (orders_without p r (orders_out s.row) ≡ orders_out s.row)
+  not_taken : None ≡ order_in_hand p r (orders_out s.row)
+      → (is_out_in r (slice_get s.row p.0) ≡ false) × (orders_without p r (orders_out s.row) ≡ orders_out s.row)
   not_taken e = by (slot_at (orders_out s.row) p) refl (cases_Bool (is_order p.0 r (slot_at (orders_out s.row) p)))
     where
-      by : (x : Option StrikeOrder) → slot_at (orders_out s.row) p ≡ x → (is_order p.0 r (slot_at (orders_out s.row) p) ≡ true) ⊎ (is_order p.0 r (slot_at (orders_out s.row) p) ≡ false)
+      by : (x : Option StrikeOrder) → slot_at (orders_out s.row) p ≡ x
+          → (is_order p.0 r (slot_at (orders_out s.row) p) ≡ true) ⊎ (is_order p.0 r (slot_at (orders_out s.row) p) ≡ false)
           → (is_out_in r (slice_get s.row p.0) ≡ false) × (orders_without p r (orders_out s.row) ≡ orders_out s.row)
       by x at (inr off) = (sym in_hand_is ∙ off, ap (λ t. set (orders_out s.row) p.0 (cond t None (slot_at (orders_out s.row) p))) off ∙ set-get_or (orders_out s.row) p.0 None)
       by None at (inl is) = absurd (let f : is_order p.0 r None ≡ true = ap (is_order p.0 r) (sym at) ∙ is in grind arith)
@@ -228,7 +239,8 @@ module _ {K : Type 0} (s : State K) (p : BoxNumber) (r : RoundNumber) where
     pub after_report : (b : Blow) → is_out b ≡ false → set (orders_out s.row) p.0 None ≡ orders_out (with_blow b p.0 s).row
     after_report b new = by (slice_get s.row p.0) refl t.out
       where
-        by : (x : Option (PlaceState K)) → slice_get s.row p.0 ≡ x → is_out_in r x ≡ true → set (orders_out s.row) p.0 None ≡ orders_out (with_blow b p.0 s).row
+        by : (x : Option (PlaceState K)) → slice_get s.row p.0 ≡ x → is_out_in r x ≡ true
+            → set (orders_out s.row) p.0 None ≡ orders_out (with_blow b p.0 s).row
         by None at e = absurd (grind arith)
         by (Some (at_rest h)) at e = absurd (grind arith)
         by (Some (down f)) at e = absurd (grind arith)
@@ -248,11 +260,14 @@ module _ {K : Type 0} (s : State K) (p : BoxNumber) (r : RoundNumber) where
     same_report : (b : Blow) → on_report b o.number o.round s ≡ on_report b p r s
     same_report b = λ j. on_report b (t.number j) (t.round j) s
 
-    settled : (b : Blow) → is_out b ≡ false → orders_put_back (report_answer o (on_report b o.number o.round s)) (orders_without p r (orders_out s.row)) ≡ orders_out (or_kept s (on_report b o.number o.round s)).row
+    settled : (b : Blow) → is_out b ≡ false
+        → orders_put_back (report_answer o (on_report b o.number o.round s)) (orders_without p r (orders_out s.row))
+        ≡ orders_out (or_kept s (on_report b o.number o.round s)).row
     settled b new =
         (λ j. orders_put_back (report_answer o (same_report b j)) (t.rest j)) ∙ by (on_report b p r s) refl ∙ (λ j. orders_out (or_kept s (sym (same_report b) j)).row)
       where
-        by : (z : Result (State K) Refusal) → on_report b p r s ≡ z → orders_put_back (report_answer o z) (set (orders_out s.row) p.0 None) ≡ orders_out (or_kept s z).row
+        by : (z : Result (State K) Refusal) → on_report b p r s ≡ z
+            → orders_put_back (report_answer o z) (set (orders_out s.row) p.0 None) ≡ orders_out (or_kept s z).row
         by (Ok then) e = after_report b new ∙ ap (λ x. orders_out x.row) (sym (was_reported s p b r then e).is)
         by (Err e) is = ap (λ k. set (set (orders_out s.row) p.0 None) k (Some o)) (ap (λ q. q.0) t.number) ∙ again
 
@@ -277,7 +292,8 @@ slot_get [] p l = absurd (omega arith)
 slot_get (x ∷ xs) zero l = refl
 slot_get (x ∷ xs) (suc p) l = slot_get xs p (omega arith)
 
-pub out_all : {K : Type 0} (row : List (PlaceState K)) (orders : List (Option StrikeOrder)) → are_out row orders ≡ true → orders ≡ orders_out row
+pub out_all : {K : Type 0} (row : List (PlaceState K)) (orders : List (Option StrikeOrder)) → are_out row orders ≡ true
+    → orders ≡ orders_out row
 unfolding are_out
 out_all {K} row orders e = list_ext orders (orders_out row) (λ p. at p (slice_get row p) refl ∙ sym (orders_get row p))
   where
@@ -321,7 +337,8 @@ module _ {K : Type 0} (s : State K) (p : BoxNumber) (r : RoundNumber) (b : Blow)
       pub state_is : then ≡ or_kept s (on_report b p r s)
       state_is = end ∙ ap (or_kept s) (same_report s p r o taken b)
 
-      pub orders_are : (left put : List (Option StrikeOrder)) → is_out b ≡ false → left ≡ orders_without p r orders → put ≡ orders_put_back z left → put ≡ orders_out then.row
+      pub orders_are : (left put : List (Option StrikeOrder)) → is_out b ≡ false → left ≡ orders_without p r orders
+          → put ≡ orders_put_back z left → put ≡ orders_out then.row
       orders_are left put new rest e =
           e ∙ (λ j. orders_put_back (told j) ((rest ∙ ap (orders_without p r) hand) j)) ∙ settled s p r o taken b new ∙ ap (λ x. orders_out x.row) (sym end)
 

@@ -1,2 +1,17 @@
 pub mod CallLists
 pub mod OrdersInHand
+pub use Rattle.base.specs.Numbered
+pub use Rattle.base.specs.Results
+pub use Rattle.base.specs.declared.refusal.Refusal
+pub use Rattle.proposals.specs.Kinds
+pub use Rattle.machine.specs.MakeCall
+pub use Rattle.machine.specs.Places
+pub use Rattle.machine.specs.State
+pub use Rattle.promise.specs.CallLog
+pub use Rattle.promise.specs.CallSteps
+pub use Rattle.promise.specs.Promise
+pub use Rattle.promise.specs.PromiseLaws
+pub use Rattle.promise.specs.declared.request.Request
+pub use Rattle.ringing.specs.RingingStates
+pub use Rattle.ringing.specs.declared.strike.StrikeOrder
+pub use Rattle.wire.specs.WireState

@@ -1,4 +1,4 @@
--- The strike orders in hand. Assumes nothing.
+-- The strike orders in hand: a slot for each box. To be believed for the promise.
 use Rattle.std.specs.Prelude.{◌≡◌, ℕ, ◌<◌, Bool, true, false, if◌then◌else◌, not, ◌&&◌, List, length, get_or, set, Some, None, Option, option_map, Ok, Err, Result, IfErr, ◌==◌}
 use Rattle.std.specs.Bool.{⊤}
 use Rattle.base.specs.declared.refusal.Refusal.{Refusal}
@@ -49,7 +49,9 @@ same_order (Some o) x = is_order o.number.0 o.round x
 
 -- there are as many slots as places, and each holds just the order of its box, if that is out
 unfoldable pub are_out : {K : Type 0} → List (PlaceState K) → List (Option StrikeOrder) → Bool
-are_out row orders = length row == length orders && not (any_numbered (λ p x. not (same_order (order_out p x) (get_or orders p None))) row)
+are_out row orders =
+    length row == length orders
+    && not (any_numbered (λ p x. not (same_order (order_out p x) (get_or orders p None))) row)
 
 -- ---- giving back
 

@@ -3,12 +3,12 @@ ghost use Rattle.std.specs.Prelude.{◌≡◌, if◌then◌else◌, map, Some, N
 ghost use Rattle.machine.specs.Places.{place_state};
 ghost use Rattle.call_lists.specs.OrdersInHand.{round_out, order_out, is_order, same_order, are_out, order_in_hand, orders_without};
 
+use machine::{Blow, Place};
 use proposals::Proposal;
 use ringing::StrikeOrder;
-use machine::{Blow, Place};
 use sets::{BoxNumber, RoundNumber};
 
-// Puts an order into a free slot.
+// Puts an order into a free slot. No order may be let go, so what `replace` gives back is matched.
 pub(crate) fn keep(slot: &mut Option<StrikeOrder>, order: StrikeOrder)
     requires { slot.old ≡ None }
     ensures { slot.new ≡ Some order }

@@ -1,4 +1,4 @@
-// A list of calls on a ringing, made one after another.
+//! A list of calls on a ringing, given as values and made one after another, with the strike orders kept in slots.
 #![tactic(auto)]
 
 mod calls;
