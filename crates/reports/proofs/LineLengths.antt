@@ -1,4 +1,4 @@
--- The lines of a report, one after another, and how long they are. Assumes nothing.
+-- The lines of a report, one after another, and how long they are.
 use Rattle.std.proofs.Common.{◌≡◌, ℕ, zero, suc, ◌+◌, ◌*◌, ◌<◌, ◌≤◌, List, [], ◌∷◌, ◌++◌, length, take, get_or, Some, codes, decimal, refl, sym, ap, ◌∙◌, append_assoc, length-append, arith, rules}
 use Rattle.std.specs.Fmt.{digits}
 use Rattle.std.specs.List.{flat_map, enumerate_from, slice_get, AllByRecursion}
@@ -27,7 +27,8 @@ pub spaced-cons : (n : ℕ) (ns : List ℕ) → spaced_numbers (n ∷ ns) ≡ (c
 unfolding spaced_numbers
 spaced-cons n ns = refl
 
-pub spaced-more : (ns : List ℕ) (i : ℕ) → i < length ns → spaced_numbers (take (i + 1) ns) ≡ spaced_numbers (take i ns) ++ (codes " " ++ decimal (get_or ns i 0))
+pub spaced-more : (ns : List ℕ) (i : ℕ) → i < length ns
+    → spaced_numbers (take (i + 1) ns) ≡ spaced_numbers (take i ns) ++ (codes " " ++ decimal (get_or ns i 0))
 unfolding spaced_numbers
 spaced-more ns i inside = grind (arith, common_steps)
 
@@ -99,7 +100,8 @@ module _ {K : Type 0} (kind : Kind K) (laws : IsKind kind) where
       let told = told_short x early in
       grind (arith, common_steps)
 
-  short_from : (k : ℕ) (row : List (PlaceState K)) → k + length row ≤ 100 → AllByRecursion IsEarly row → length (lines_from kind k row) ≤ 53 * length row
+  short_from : (k : ℕ) (row : List (PlaceState K)) → k + length row ≤ 100 → AllByRecursion IsEarly row
+      → length (lines_from kind k row) ≤ 53 * length row
   short_from k [] within all = omega arith
   short_from k (x ∷ xs) within (early, all) =
       let first = line_short k x (omega arith) early in

@@ -1,4 +1,4 @@
--- When a report is refused, and what is told and written where it is not. Assumes nothing.
+-- When a report is refused, and what is told and written where it is not.
 use Rattle.std.proofs.Common.{◌≡◌, ℕ, ◌<◌, ◌≤◌, Bool, true, false, cond, ltb, List, length, Ok, Err, option_map, refl, ap, ◌∙◌, arith}
 use Rattle.std.specs.List.{slice_get}
 use Rattle.std.specs.Option.{ok_or}
@@ -64,11 +64,13 @@ module _ {K : Type 0} (s : State K) where
     report_silent good none = grind arith
 
     pub report_rung : bad_row s ≡ false → is_over s ≡ true
-        → report_or_refusal kind room s ≡ cond (ltb room (length (report_text kind s.row))) (Err refusal.Narrow) (Ok (report_text kind s.row))
+        → report_or_refusal kind room s
+        ≡ cond (ltb room (length (report_text kind s.row))) (Err refusal.Narrow) (Ok (report_text kind s.row))
     unfolding report_or_refusal
     report_rung good some = grind arith
 
     -- what is told and written where the row is not refused and a box rings
     pub report_told : (out : List ℕ) → length out ≡ room → bad_row s ≡ false → is_over s ≡ true
-        → (len_if_room (report_text kind s.row) out ≡ report_answer (report_or_refusal kind room s)) × (with_front (report_text kind s.row) out ≡ report_bytes out (report_or_refusal kind room s))
+        → (len_if_room (report_text kind s.row) out ≡ report_answer (report_or_refusal kind room s))
+        × (with_front (report_text kind s.row) out ≡ report_bytes out (report_or_refusal kind room s))
     report_told out long good some = let r = report_rung good some in (grind (arith, nat_tests), grind (arith, nat_tests))

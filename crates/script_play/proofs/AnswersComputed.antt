@@ -1,4 +1,4 @@
--- The worked answers, by computation. Assumes nothing.
+-- The worked answers, by computation.
 use Rattle.std.proofs.Common.{refl}
 use Rattle.std.specs.Fmt.{digits}
 use native.Mathlib.Decide.{dec_le}

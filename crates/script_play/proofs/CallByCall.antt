@@ -1,4 +1,4 @@
--- Playing a script call by call. Assumes nothing.
+-- Playing a script call by call.
 use Rattle.std.proofs.Common.{◌≡◌, ℕ, zero, suc, ◌<◌, ◌≤◌, true, false, cond, ◌&&◌, List, [], ◌∷◌, ◌++◌, Some, None, Option, Ok, is_ok, get_or, sym, refl, ap, ◌∙◌, subst, arith}
 use Rattle.std.proofs.Math.Decide.{le_ind}
 use Rattle.std.proofs.lemmas.Bool.Decides.{nat_tests}
@@ -35,7 +35,8 @@ use Rattle.proposals.specs.Kinds.{Kind}
 -- ---- one list of calls after another
 
 module _ {K : Type 0} (kind : Kind K) where
-  pub accepted-append : (xs ys : List Request) (s : State K) → all_accepted kind (xs ++ ys) s ≡ (all_accepted kind xs s && all_accepted kind ys (state_after kind xs s))
+  pub accepted-append : (xs ys : List Request) (s : State K)
+      → all_accepted kind (xs ++ ys) s ≡ (all_accepted kind xs s && all_accepted kind ys (state_after kind xs s))
   unfolding state_after all_accepted
   accepted-append [] ys s = refl
   accepted-append (c ∷ xs) ys s = let ih = accepted-append xs ys (state_after_call kind c s) in grind arith
@@ -69,7 +70,8 @@ module _ {K : Type 0} (kind : Kind K) (r : ℕ) (es : List Entry) (s : State K) 
   unfolding state_after
   round_last = after-append kind (falls_before r es) (request.Round longest_frame ∷ []) s
 
-  pub round_split : all_accepted kind (calls_in r es) s ≡ (all_accepted kind (falls_before r es) s && (is_ok (answer_to kind (request.Round longest_frame) falls_told) && true))
+  pub round_split : all_accepted kind (calls_in r es) s
+      ≡ (all_accepted kind (falls_before r es) s && (is_ok (answer_to kind (request.Round longest_frame) falls_told) && true))
   unfolding state_after all_accepted
   round_split = accepted-append kind (falls_before r es) (request.Round longest_frame ∷ []) s
 

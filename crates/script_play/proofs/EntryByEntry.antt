@@ -1,4 +1,4 @@
--- Telling the falls of a round, entry by entry. Assumes nothing.
+-- Telling the falls of a round, entry by entry.
 use Rattle.std.proofs.Common.{◌≡◌, ℕ, suc, ◌+◌, ◌-◌, ◌<◌, ◌≤◌, Bool, true, false, cond, ◌&&◌, eqb, ltb, ◌⊎◌, List, [], ◌∷◌, is_some, is_ok, Some, None, Option, sym, refl, ap, ◌∙◌, subst, inl, inr, arith}
 use Rattle.std.proofs.lemmas.Bool.{cases_Bool, cases_lt, eqb-true, both_ways}
 use Rattle.std.proofs.lemmas.Bool.Decides.{nat_tests}
@@ -38,7 +38,8 @@ abbrev in_round : ℕ → Option Fall → Option Fall → Option Fall
 in_round r None o = o
 in_round r (Some f) o = cond (eqb f.round.0 r) (Some f) o
 
-told_of : (n t r : ℕ) (es : List Entry) (g : Falls) (q : ℕ) → entries_fit n t es ≡ true → with_told r es g q ≡ in_round r (falls_of es q) (g q)
+told_of : (n t r : ℕ) (es : List Entry) (g : Falls) (q : ℕ) → entries_fit n t es ≡ true
+    → with_told r es g q ≡ in_round r (falls_of es q) (g q)
 unfolding with_told falls_of
 told_of n t r [] g q is = refl
 told_of n t r (e ∷ es) g q is =
@@ -46,8 +47,10 @@ told_of n t r (e ∷ es) g q is =
     told_of n t r es (cond (eqb e.round.0 r) (with_fall r e.number.0 e.lost g) g) q f.others
     ∙ by (cases_Bool (eqb q e.number.0)) (cases_Bool (eqb e.round.0 r)) (λ own. unnamed_stands q es (ap (λ k. is_named k es) (eqb-true q e.number.0 own) ∙ f.unnamed))
   where
-    by : (eqb q e.number.0 ≡ true) ⊎ (eqb q e.number.0 ≡ false) → (eqb e.round.0 r ≡ true) ⊎ (eqb e.round.0 r ≡ false) → (eqb q e.number.0 ≡ true → falls_of es q ≡ None)
-        → in_round r (falls_of es q) (cond (eqb e.round.0 r) (with_fall r e.number.0 e.lost g) g q) ≡ in_round r (cond (eqb q e.number.0) (Some (fall_by e)) (falls_of es q)) (g q)
+    by : (eqb q e.number.0 ≡ true) ⊎ (eqb q e.number.0 ≡ false) → (eqb e.round.0 r ≡ true) ⊎ (eqb e.round.0 r ≡ false)
+        → (eqb q e.number.0 ≡ true → falls_of es q ≡ None)
+        → in_round r (falls_of es q) (cond (eqb e.round.0 r) (with_fall r e.number.0 e.lost g) g q)
+        ≡ in_round r (cond (eqb q e.number.0) (Some (fall_by e)) (falls_of es q)) (g q)
     by (inl own) (inl now) none =
         let n = none own in
         let same : e.round.0 ≡ r = eqb-true e.round.0 r now in
@@ -56,7 +59,8 @@ told_of n t r (e ∷ es) g q is =
     by (inr other) (inl now) none = grind arith
     by (inr other) (inr later) none = grind arith
 
-pub told_past : (n t r : ℕ) (es : List Entry) → entries_fit n t es ≡ true → with_told (suc r) es (past_falls r (falls_of es)) ≡ past_falls (suc r) (falls_of es)
+pub told_past : (n t r : ℕ) (es : List Entry) → entries_fit n t es ≡ true
+    → with_told (suc r) es (past_falls r (falls_of es)) ≡ past_falls (suc r) (falls_of es)
 told_past n t r es is = λ i q. (told_of n t (suc r) es (past_falls r (falls_of es)) q is ∙ by (falls_of es q)) i
   where
     by : (o : Option Fall) → in_round (suc r) o (fall_so_far r o) ≡ fall_so_far (suc r) o
@@ -117,7 +121,8 @@ module _ (n t r : ℕ) (f g : Falls) (e : Entry) (es : List Entry) (fits : Fits 
       within = λ q. by q (cases_Bool (eqb q e.number.0));
     }
       where
-        by : (q : ℕ) → (eqb q e.number.0 ≡ true) ⊎ (eqb q e.number.0 ≡ false) → is_some (with_fall (suc r) e.number.0 e.lost g q) ≡ true → is_some (f q) ≡ true
+        by : (q : ℕ) → (eqb q e.number.0 ≡ true) ⊎ (eqb q e.number.0 ≡ false) → is_some (with_fall (suc r) e.number.0 e.lost g q) ≡ true
+            → is_some (f q) ≡ true
         by q (inl own) is = ap (λ x. is_some (f x)) (eqb-true q e.number.0 own) ∙ falls_then
         by q (inr other) is = k.within q (grind arith)
 
@@ -156,7 +161,8 @@ module _ {K : Type 0} (kind : Kind K) (agree : (h : History K) → Agreement h k
         let few = few_fall s p proposals in
         by (cases_lt (count (λ q. is_some (g q)) s.n) (count (λ q. is_some (falls q)) s.n))
       where
-        by : (count (λ q. is_some (g q)) s.n < count (λ q. is_some (falls q)) s.n) ⊎ (count (λ q. is_some (falls q)) s.n ≤ count (λ q. is_some (g q)) s.n) → count (λ q. is_some (g q)) s.n < s.t
+        by : (count (λ q. is_some (g q)) s.n < count (λ q. is_some (falls q)) s.n) ⊎ (count (λ q. is_some (falls q)) s.n ≤ count (λ q. is_some (g q)) s.n)
+            → count (λ q. is_some (g q)) s.n < s.t
         by (inl l) = omega (arith, few_fall s p proposals)
         by (inr m) = absurd (
             both_ways (is_some (g e.number.0)) (ap is_some (unfallen s.n s.t r falls g e es fits k now))
@@ -181,7 +187,8 @@ module _ {K : Type 0} (kind : Kind K) (agree : (h : History K) → Agreement h k
     unfolding state_after log_after
     now x h reached = reached []
 
-    pub next : (c : Request) (x : State K) (h then : History K) → with_call c (undrawn_log h) ≡ undrawn_log then → is_ok (answer_to kind c x) ≡ true → Reached x h → Reached (state_after_call kind c x) then
+    pub next : (c : Request) (x : State K) (h then : History K) → with_call c (undrawn_log h) ≡ undrawn_log then
+        → is_ok (answer_to kind c x) ≡ true → Reached x h → Reached (state_after_call kind c x) then
     unfolding state_after answers_to log_after
     next c x h then is ok reached more =
         subst (λ y. FollowsRule kind unopened (state_after kind more (state_after_call kind c x)) (log_after more (answers_to kind more (state_after_call kind c x)) y)) is
@@ -194,7 +201,8 @@ module _ {K : Type 0} (kind : Kind K) (agree : (h : History K) → Agreement h k
         (all_accepted kind (falls_before (suc r) es) x ≡ true)
         × Reached (state_after kind (falls_before (suc r) es) x) (history (with_told (suc r) es g) r)
 
-    pub walk : (r : ℕ) → r < ringing_round_of s → (es : List Entry) (x : State K) (g : Falls) → entries_fit s.n s.t es ≡ true → Ready r falls g es → Reached x (history g r) → Walked r es x g
+    pub walk : (r : ℕ) → r < ringing_round_of s → (es : List Entry) (x : State K) (g : Falls) → entries_fit s.n s.t es ≡ true
+        → Ready r falls g es → Reached x (history g r) → Walked r es x g
     unfolding all_accepted falls_before state_after with_told
     walk r early [] x g is k reached = (refl, reached)
     walk r early (e ∷ es) x g is k reached =

@@ -1,4 +1,4 @@
--- The falls that entries tell. Assumes nothing.
+-- The falls that entries tell.
 use Rattle.std.proofs.Common.{◌≡◌, ℕ, zero, suc, ◌<◌, ◌≤◌, Bool, true, false, cond, ◌||◌, eqb, ◌⊎◌, List, [], ◌∷◌, length, is_some, Some, None, Option, sym, refl, ap, ◌∙◌, subst, inl, inr, arith}
 use Rattle.std.specs.List.{slice_get}
 use Rattle.std.proofs.lemmas.Bool.{cases_Bool, eqb-true, both_ways}
@@ -69,7 +69,8 @@ module _ (n t : ℕ) where
   falls_dated [] is q = refl
   falls_dated (e ∷ es) is q = let f = fit_of n t e es is in by f.first.begun (falls_dated es f.others q) (eqb q e.number.0)
     where
-      by : 1 ≤ e.round.0 → fell_before (falls_of es q) 1 ≡ false → (b : Bool) → fell_before (cond b (Some (fall_by e)) (falls_of es q)) 1 ≡ false
+      by : 1 ≤ e.round.0 → fell_before (falls_of es q) 1 ≡ false → (b : Bool)
+          → fell_before (cond b (Some (fall_by e)) (falls_of es q)) 1 ≡ false
       by l ih true = grind (arith, nat_tests)
       by l ih false = ih
 
@@ -152,7 +153,8 @@ named_at [] i x at = absurd (grind arith)
 named_at (e ∷ es) zero x at = let same : e ≡ x = cc in let k : eqb x.number.0 x.number.0 ≡ true = grind (arith, nat_tests) in grind (arith, nat_tests)
 named_at (e ∷ es) (suc i) x at = let more = named_at es i x at in grind arith
 
-fall_at : (n t : ℕ) (es : List Entry) → entries_fit n t es ≡ true → (i : ℕ) (x : Entry) → slice_get es i ≡ Some x → falls_of es x.number.0 ≡ Some (fall_by x)
+fall_at : (n t : ℕ) (es : List Entry) → entries_fit n t es ≡ true → (i : ℕ) (x : Entry) → slice_get es i ≡ Some x
+    → falls_of es x.number.0 ≡ Some (fall_by x)
 fall_at n t [] is i x at = absurd (grind arith)
 fall_at n t (e ∷ es) is zero x at = let same : e ≡ x = cc in subst (λ y. falls_of (e ∷ es) y.number.0 ≡ Some (fall_by y)) same (falls_first e es)
 fall_at n t (e ∷ es) is (suc i) x at =

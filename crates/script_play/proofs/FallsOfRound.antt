@@ -1,4 +1,4 @@
--- The falls of a round, as the entries are gone through. Assumes nothing.
+-- The falls of a round, as the entries are gone through.
 use Rattle.std.proofs.Common.{◌≡◌, ℕ, ◌+◌, ◌<◌, ◌≤◌, true, false, cond, eqb, ◌&&◌, List, [], ◌∷◌, length, get_or, drop, Ok, Err, Result, is_ok, sym, refl, ap, ◌∙◌, arith}
 use Rattle.std.proofs.lemmas.List.{drop_more, drop_all}
 use Rattle.std.specs.Result.{IsOk}
@@ -40,12 +40,14 @@ module _ (r : ℕ) (es : List Entry) (i : ℕ) where
       told = left ∙ ap (λ b. cond b (request.Fall e.number e.lost ∷ more) more) now
 
       module _ {K : Type 0} (kind : Kind K) (s : State K) where
-        pub told_ends : state_after kind (falls_before r (drop i es)) s ≡ state_after kind more (state_after_call kind (request.Fall e.number e.lost) s)
+        pub told_ends : state_after kind (falls_before r (drop i es)) s
+            ≡ state_after kind more (state_after_call kind (request.Fall e.number e.lost) s)
         unfolding state_after
         told_ends = ap (λ c. state_after kind c s) told
 
         pub told_accepted : all_accepted kind (falls_before r (drop i es)) s ≡ true
-            → (is_ok (on_fall e.number e.lost s) ≡ true) × (all_accepted kind more (state_after_call kind (request.Fall e.number e.lost) s) ≡ true)
+            → (is_ok (on_fall e.number e.lost s) ≡ true)
+            × (all_accepted kind more (state_after_call kind (request.Fall e.number e.lost) s) ≡ true)
         unfolding all_accepted
         told_accepted all =
             let k : (is_ok (answer_to kind (request.Fall e.number e.lost) s) && all_accepted kind more (state_after_call kind (request.Fall e.number e.lost) s)) ≡ true = sym (ap (λ c. all_accepted kind c s) told) ∙ all in

@@ -1,4 +1,4 @@
--- A ringing that is made for a script. Assumes nothing.
+-- A ringing that is made for a script.
 use Rattle.base.specs.Results.{refused_with}
 use Rattle.std.proofs.Common.{◌≡◌, ℕ, ◌≤◌, List, length, Ok, Err, Result, IfOk, sym, refl, ap, ◌∙◌, arith}
 use Rattle.std.specs.Result.{result_map_both}
@@ -51,7 +51,8 @@ module _ {K : Type 0} {kind : Kind K} (plays : ScriptPlays kind) (s : Script) {m
     pub made_goes : CallsAreAccepted kind (values_of s) first
     made_goes = (goes made_so (some made_so)).0
 
-    pub made_plays : {end : State K} (past_end : K) → end ≡ state_after kind (calls_to s.entries.items (ringing_round_of (values_of s))) first
+    pub made_plays : {end : State K} (past_end : K)
+        → end ≡ state_after kind (calls_to s.entries.items (ringing_round_of (values_of s))) first
         → Ok end ≡ map_fault (refused_with w) (on_play kind (values_of s) m places proposals past_end)
     made_plays past_end lead =
         ap Ok (lead ∙ (goes made_so past_end).1)

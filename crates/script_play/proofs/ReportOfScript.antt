@@ -1,4 +1,4 @@
--- The report of a script that is played on a new wire. Assumes nothing.
+-- The report of a script that is played on a new wire.
 use Rattle.base.specs.Results.{refused_with}
 use Rattle.base.specs.declared.refused.Refused.{Refused}
 use Rattle.std.proofs.Common.{◌≡◌, ℕ, suc, ◌<◌, ◌≤◌, true, false, cond, leb, ltb, List, [], ◌∷◌, length, take, drop, get_or, Fits, w8, Some, None, Option, Ok, Err, Result, sym, refl, ap, ◌∙◌, subst, arith}
@@ -54,7 +54,8 @@ module _ (n a t : ℕ) (limits : is_company n t ≡ true) (same : a ≡ n) where
   unfolding wire.on_make
   made_is_new m is = let k = ap wire.on_make same in grind (arith, nat_tests)
 
-  pub board_made : {B : Type 0} (meaning : B → WireState) (r : Result B Refusal) → result_map_both meaning (λ e. e) r ≡ wire.on_make a → IsOk r
+  pub board_made : {B : Type 0} (meaning : B → WireState) (r : Result B Refusal) → result_map_both meaning (λ e. e) r ≡ wire.on_make a
+      → IsOk r
   unfolding wire.on_make
   board_made meaning (Ok b) is = refl
   board_made meaning (Err e) is = absurd (let k = ap wire.on_make same in grind (arith, nat_tests))
@@ -125,7 +126,8 @@ module _ {K : Type 0} (kind : Kind K) (accepted : MakeIsAccepted K) (s : ScriptV
       short : ReportLength kind → length (report_text kind (row_by kind h)) ≤ longest_report
       short shorter = shorter (row_by kind h) (let n = row_length kind h p.size in let f = few in omega arith) (all_at IsEarly (row_by kind h) early)
 
-      pub reported : ReportLength kind → (room : ℕ) → longest_report ≤ room → report_or_refusal kind room end ≡ Ok (report_text kind (row_by kind h))
+      pub reported : ReportLength kind → (room : ℕ) → longest_report ≤ room
+          → report_or_refusal kind room end ≡ Ok (report_text kind (row_by kind h))
       unfolding report_or_refusal
       reported shorter room enough = let r = rests in let l = short shorter in grind (arith, nat_tests)
 
@@ -135,10 +137,12 @@ pub bytes_small : (bytes : List ℕ) → ((i : ℕ) → Fits w8 (get_or bytes i 
 bytes_small bytes fits = all_at (λ b. b < 256) bytes (λ p x at. let e = get_or_from_slice_get bytes p x 0 at in omega (arith, fits p))
 
 -- the places of the proposals
-pub laid_first : {K : Type 0} (r : Result (ScriptValues × List K) Refusal) (s : ScriptValues) (ps old new : List K) (n : ℕ) → r ≡ Ok (s, ps) → new ≡ places_after r old → length ps ≡ n → take n new ≡ ps
+pub laid_first : {K : Type 0} (r : Result (ScriptValues × List K) Refusal) (s : ScriptValues) (ps old new : List K) (n : ℕ) → r ≡ Ok (s, ps)
+    → new ≡ places_after r old → length ps ≡ n → take n new ≡ ps
 laid_first r s ps old new n is report_bytes long = ap (take n) (report_bytes ∙ ap (λ x. places_after x old) is) ∙ take_at ps (drop (length ps) old) n long
 
-pub read_ok : {K : Type 0} (r : Result (ScriptValues × List K) Refusal) (s : ScriptValues) → Ok s ≡ result_map_both (λ x. x.0) (λ e. e) r → (ps : List K) × (r ≡ Ok (s, ps))
+pub read_ok : {K : Type 0} (r : Result (ScriptValues × List K) Refusal) (s : ScriptValues) → Ok s ≡ result_map_both (λ x. x.0) (λ e. e) r
+    → (ps : List K) × (r ≡ Ok (s, ps))
 read_ok (Ok x) s is = (x.1, (let k : x.0 ≡ s = cc in λ i. Ok (k i, x.1)))
 read_ok (Err e) s is = absurd (grind arith)
 
@@ -154,14 +158,16 @@ pub line_fits : (text out : List ℕ) → length text ≤ length out → IsOk (l
 line_fits text out fits = (let k : leb (length text) (length out) ≡ true = grind (arith, nat_tests) in subst (λ b. IsOk (cond b (Ok (length text)) (Err Narrow))) (sym k) refl)
 
 -- what was written is not longer than the bytes
-pub told_fits : (r : Result (List ℕ) Refusal) (out new : List ℕ) (k : ℕ) → Ok k ≡ report_answer r → new ≡ report_bytes out r → k ≤ length new
+pub told_fits : (r : Result (List ℕ) Refusal) (out new : List ℕ) (k : ℕ) → Ok k ≡ report_answer r → new ≡ report_bytes out r
+    → k ≤ length new
 told_fits (Ok text) out new k is written = (let l = ap length written in let a = length-append text (drop (length text) out) in grind arith)
 told_fits (Err e) out new k is written = absurd (grind arith)
 
 -- ---- what comes of bytes
 
 pub bytes_play : {K : Type 0} (kind : Kind K) (bytes : List ℕ) → MakeIsAccepted K → ScriptPlays kind
-    → ((s : ScriptValues) (ps : List K) → read_script kind most_company bytes ≡ Ok (s, ps) → MayBeRead most_company s ps) → BytesPlay kind bytes
+    → ((s : ScriptValues) (ps : List K) → read_script kind most_company bytes ≡ Ok (s, ps) → MayBeRead most_company s ps)
+    → BytesPlay kind bytes
 bytes_play kind bytes accepted plays stands s ps past_end is =
     let k = stands s ps is in
     let e = plays s k.proper ps past_end in

@@ -1,4 +1,4 @@
--- In which round the boxes of a script ring, and what stands in their places then. Assumes nothing.
+-- In which round the boxes of a script ring, and what stands in their places then.
 use Rattle.std.proofs.Common.{◌≡◌, ℕ, suc, ◌+◌, ◌-◌, ◌<◌, ◌≤◌, true, cond, eqb, leb, ltb, ◌⊎◌, Some, None, refl, ap, ◌∙◌, inl, inr, arith}
 use Rattle.std.specs.List.{slice_get}
 use Rattle.std.proofs.Math.Decide.{le_ind}
@@ -59,7 +59,8 @@ module _ {K : Type 0} (kind : Kind K) (agree : (h : History K) → Agreement h k
   round_to : (r : ℕ) → r ≤ R → ringing_round (history_to s p proposals R r) ≡ s.t + 1 - w r
   round_to r l = ap (λ d. s.t + 1 - d) (only_past (history_all s p proposals 0) R r 0 0 l).2
 
-  rings_at : (r q : ℕ) → r ≤ R → q < s.n → closes (past_falls R (falls_of s.entries)) q r ≡ true → rule.rings (history_to s p proposals R r) q r ≡ eqb r (s.t + 1 - w r)
+  rings_at : (r q : ℕ) → r ≤ R → q < s.n → closes (past_falls R (falls_of s.entries)) q r ≡ true
+      → rule.rings (history_to s p proposals R r) q r ≡ eqb r (s.t + 1 - w r)
   rings_at r q l m c = (agree (history_to s p proposals R r) (to_allowed s p proposals R r)).0 q m c ∙ ap (eqb r) (round_to r l)
 
   abbrev h : History K

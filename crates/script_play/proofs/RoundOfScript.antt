@@ -1,4 +1,4 @@
--- A round of a script that is played. Assumes nothing.
+-- A round of a script that is played.
 use Rattle.std.proofs.Common.{◌≡◌, ℕ, suc, ◌<◌, ◌≤◌, true, false, ◌⊎◌, List, subst, refl, sym, ap, ◌∙◌, inl, inr, arith}
 use Rattle.std.proofs.lemmas.Bool.{cases_lt, both_ways}
 use Rattle.machine.specs.State.{State}

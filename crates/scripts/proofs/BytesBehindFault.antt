@@ -1,4 +1,4 @@
--- Bytes are judged as they are read: what stands behind a fault does not count, unless the bytes ended too soon. Assumes nothing.
+-- Bytes are judged as they are read: what stands behind a fault does not count, unless the bytes ended too soon.
 use Rattle.std.proofs.Common.{◌≡◌, ℕ, zero, suc, ◌+◌, ◌<◌, ◌≤◌, ◌==◌, Bool, true, false, nat_lt, List, [], ◌∷◌, ◌++◌, length, get_or, slice_index, drop, Ok, Err, Result, sym, refl, ap, ◌∙◌, inl, inr, arith, length-append}
 use lib.ListN.{get_or-append}
 use lib.Seq.{take-append-le, drop-append-le}
@@ -37,18 +37,21 @@ keeps_err up d other k long = k.same (λ c is short. let e : c ≡ d = cc in lon
 keeps_refl : {X D : Type 0} (up : D → Refusal) (one : Result X D) → Keeps up one one
 keeps_refl up one = record { same = λ _. refl }
 
-keeps_map : {X D E : Type 0} (up : E → Refusal) (into : D → E) (one other : Result X D) → Keeps (λ d. up (into d)) one other → Keeps up (map_fault into one) (map_fault into other)
+keeps_map : {X D E : Type 0} (up : E → Refusal) (into : D → E) (one other : Result X D) → Keeps (λ d. up (into d)) one other
+    → Keeps up (map_fault into one) (map_fault into other)
 keeps_map up into (Ok x) other k = record { same = λ _. ap (map_fault into) (keeps_ok _ x other k) }
 keeps_map up into (Err d) other k = record { same = λ long. ap (map_fault into) (keeps_err _ d other k (long (into d) refl)) }
 
 -- where two parts stay so, the one after the other does
-keeps_then : {X Y D E : Type 0} (up : E → Refusal) (into : D → E) (one other : Result X D) (go on : X → Result Y E) → Keeps (λ d. up (into d)) one other → ((x : X) → Keeps up (go x) (on x))
+keeps_then : {X Y D E : Type 0} (up : E → Refusal) (into : D → E) (one other : Result X D) (go on : X → Result Y E)
+    → Keeps (λ d. up (into d)) one other → ((x : X) → Keeps up (go x) (on x))
     → Keeps up (and_then into one go) (and_then into other on)
 keeps_then up into (Ok x) other go on k each = record { same = λ long. ap (λ r. and_then into r on) (keeps_ok _ x other k) ∙ (each x).same long }
 keeps_then up into (Err d) other go on k each = record { same = λ long. ap (λ r. and_then into r on) (keeps_err _ d other k (long (into d) refl)) }
 
 -- where each stays so, all do
-several_keep : {X : Type 0} (one other : List X → ℕ → Result (X × ℕ) Refusal) → ((before : List X) (place : ℕ) → Keeps (λ (e : Refusal). e) (one before place) (other before place))
+several_keep : {X : Type 0} (one other : List X → ℕ → Result (X × ℕ) Refusal)
+    → ((before : List X) (place : ℕ) → Keeps (λ (e : Refusal). e) (one before place) (other before place))
     → (k place : ℕ) → Keeps (λ (e : Refusal). e) (read_several one k place) (read_several other k place)
 unfolding read_several
 several_keep one other each zero place = keeps_refl _ _
@@ -58,14 +61,16 @@ several_keep one other each (suc k) place = keeps_then _ _ _ _ _ _ (several_keep
 record Stops {X : Type 0} (one other : Result X Refusal) : Type 0 where
   same : (e : Refusal) → one ≡ Err e → (e ≡ Short → ⊥) → other ≡ Err e
 
-stops_then : {X Y : Type 0} (one other : Result X Refusal) (go on : X → Result Y Refusal) → Keeps (λ (e : Refusal). e) one other → ((x : X) → Stops (go x) (on x))
+stops_then : {X Y : Type 0} (one other : Result X Refusal) (go on : X → Result Y Refusal) → Keeps (λ (e : Refusal). e) one other
+    → ((x : X) → Stops (go x) (on x))
     → Stops (and_then (λ (e : Refusal). e) one go) (and_then (λ (e : Refusal). e) other on)
 stops_then (Ok x) other go on k each = record { same = λ e is long. ap (λ r. and_then (λ (f : Refusal). f) r on) (keeps_ok _ x other k) ∙ (each x).same e is long }
 stops_then (Err d) other go on k each = record { same = λ e is long. let same : d ≡ e = cc in ap (λ r. and_then (λ (f : Refusal). f) r on) (keeps_err _ d other k (rw (← same) at long)) ∙ is }
 
 -- ---- a number
 
-groups_keep : (place : ℕ) (bs behind : List ℕ) → (prefix_len goes_on bs < 5 → prefix_len goes_on bs < length bs) → read_groups place (bs ++ behind) ≡ read_groups place bs
+groups_keep : (place : ℕ) (bs behind : List ℕ) → (prefix_len goes_on bs < 5 → prefix_len goes_on bs < length bs)
+    → read_groups place (bs ++ behind) ≡ read_groups place bs
 unfolding read_groups
 groups_keep place bs behind long =
     let most = prefix_len-le-length goes_on bs in
@@ -85,7 +90,8 @@ short_there bytes place over =
     let none : nat_lt place (length bytes) ≡ false = grind (arith, nat_tests) in
     rw (none, drop_all place bytes over) refl
 
-unpadded_keeps : (bytes behind : List ℕ) (place : ℕ) → place < length bytes → (slice_index bytes place == 128) ≡ false → ((d : NumberFault) → read_number bytes place ≡ Err d → d.refusal ≡ Short → ⊥)
+unpadded_keeps : (bytes behind : List ℕ) (place : ℕ) → place < length bytes → (slice_index bytes place == 128) ≡ false
+    → ((d : NumberFault) → read_number bytes place ≡ Err d → d.refusal ≡ Short → ⊥)
     → read_number (bytes ++ behind) place ≡ read_number bytes place
 unpadded_keeps bytes behind place inside first long =
     let bs = drop place bytes in
@@ -101,7 +107,8 @@ unpadded_keeps bytes behind place inside first long =
     in
     then ∙ groups_keep place bs behind on ∙ sym there
 
-padded_keeps : (bytes behind : List ℕ) (place : ℕ) → place < length bytes → (slice_index bytes place == 128) ≡ true → read_number (bytes ++ behind) place ≡ read_number bytes place
+padded_keeps : (bytes behind : List ℕ) (place : ℕ) → place < length bytes → (slice_index bytes place == 128) ≡ true
+    → read_number (bytes ++ behind) place ≡ read_number bytes place
 padded_keeps bytes behind place inside first =
     let same : get_or (bytes ++ behind) place 0 ≡ get_or bytes place 0 = get_or-append bytes behind 0 place inside in
     let all = length-append bytes behind in
@@ -109,12 +116,14 @@ padded_keeps bytes behind place inside first =
     let there : nat_lt place (length (bytes ++ behind)) ≡ true = grind (arith, nat_tests) in
     rw (same, first, here, there) refl
 
-first_keeps : (bytes behind : List ℕ) (place : ℕ) → place < length bytes → (pad : Bool) → (slice_index bytes place == 128) ≡ pad → ((d : NumberFault) → read_number bytes place ≡ Err d → d.refusal ≡ Short → ⊥)
+first_keeps : (bytes behind : List ℕ) (place : ℕ) → place < length bytes → (pad : Bool) → (slice_index bytes place == 128) ≡ pad
+    → ((d : NumberFault) → read_number bytes place ≡ Err d → d.refusal ≡ Short → ⊥)
     → read_number (bytes ++ behind) place ≡ read_number bytes place
 first_keeps bytes behind place inside true first long = padded_keeps bytes behind place inside first
 first_keeps bytes behind place inside false first long = unpadded_keeps bytes behind place inside first long
 
-number_keeps : (bytes behind : List ℕ) (place : ℕ) → Keeps (λ (e : NumberFault). e.refusal) (read_number bytes place) (read_number (bytes ++ behind) place)
+number_keeps : (bytes behind : List ℕ) (place : ℕ)
+    → Keeps (λ (e : NumberFault). e.refusal) (read_number bytes place) (read_number (bytes ++ behind) place)
 number_keeps bytes behind place = elim (cases_lt place (length bytes)) [
   | inl inside ↦ record { same = λ long. first_keeps bytes behind place inside (slice_index bytes place == 128) refl long }
   | inr over ↦ record { same = λ long. absurd (long _ (short_there bytes place over) refl) }
@@ -138,11 +147,13 @@ module _ (bytes behind : List ℕ) where
   unfolding read_head
   head_keeps places = keeps_then _ _ _ _ _ _ (at_keeps 0) (λ n. keeps_then _ _ _ _ _ _ (at_keeps n.next) (λ t. keeps_refl _ _))
 
-  proposal_keeps : {K : Type 0} (kind : Kind K) (place : ℕ) → Keeps (λ (e : Refusal). e) (proposal_at kind bytes place) (proposal_at kind (bytes ++ behind) place)
+  proposal_keeps : {K : Type 0} (kind : Kind K) (place : ℕ)
+      → Keeps (λ (e : Refusal). e) (proposal_at kind bytes place) (proposal_at kind (bytes ++ behind) place)
   unfolding read_proposal
   proposal_keeps kind place = keeps_map _ _ _ _ (keeps_then _ _ _ _ _ _ (image_keeps kind.size place) (λ found. keeps_refl _ _))
 
-  entry_keeps : (n t : ℕ) (before : List Entry) (place : ℕ) → Keeps (λ (e : Refusal). e) (entry_at n t bytes before place) (entry_at n t (bytes ++ behind) before place)
+  entry_keeps : (n t : ℕ) (before : List Entry) (place : ℕ)
+      → Keeps (λ (e : Refusal). e) (entry_at n t bytes before place) (entry_at n t (bytes ++ behind) before place)
   unfolding entry_at
   entry_keeps n t before place =
       keeps_then _ _ _ _ _ _ (at_keeps place) (λ r.
@@ -158,7 +169,8 @@ module _ (bytes behind : List ℕ) where
       keeps_then _ _ _ _ _ _ (keeps_refl _ _) (λ _. several_keep (entry_at n t bytes) (entry_at n t (bytes ++ behind)) (entry_keeps n t) count.value count.next))
 
   -- bytes that follow are refused last
-  end_stops : {X : Type 0} (end : ℕ) (x : X) → Stops (unless ((nat_lt end (length bytes), Surplus) ∷ []) x) (unless ((nat_lt end (length (bytes ++ behind)), Surplus) ∷ []) x)
+  end_stops : {X : Type 0} (end : ℕ) (x : X)
+      → Stops (unless ((nat_lt end (length bytes), Surplus) ∷ []) x) (unless ((nat_lt end (length (bytes ++ behind)), Surplus) ∷ []) x)
   end_stops end x = record {
     same = λ e is _. elim (cases_lt end (length bytes)) [
       | inl more ↦ let all = length-append bytes behind in grind (arith, nat_tests)

@@ -1,4 +1,4 @@
--- Entries that were read fit. Assumes nothing.
+-- Entries that were read fit.
 use Rattle.std.proofs.Common.{◌≡◌, ℕ, ◌≤◌, Bool, true, false, ◌==◌, List, [], ◌∷◌, ◌++◌, length, Ok, nat_le, nat_lt, refl, ap, arith}
 use Rattle.std.specs.Bool.{⊤}
 use Rattle.std.proofs.lemmas.Bool.{ltb-false}
@@ -18,7 +18,8 @@ named_push : (q : ℕ) (es : List Entry) (e : Entry) → is_named q es ≡ false
 named_push q [] e none other = grind (arith, nat_tests)
 named_push q (x ∷ es) e none other = let ih = named_push q es e in grind (arith, nat_tests)
 
-fitting_push : (n t : ℕ) (es : List Entry) (e : Entry) → entries_fit n t es ≡ true → entry_fits n t e ≡ true → is_named e.number.0 es ≡ false → entries_fit n t (es ++ (e ∷ [])) ≡ true
+fitting_push : (n t : ℕ) (es : List Entry) (e : Entry) → entries_fit n t es ≡ true → entry_fits n t e ≡ true
+    → is_named e.number.0 es ≡ false → entries_fit n t (es ++ (e ∷ [])) ≡ true
 unfolding entries_fit
 fitting_push n t [] e all one new = grind (arith, nat_tests)
 fitting_push n t (x ∷ es) e all one new =
@@ -39,7 +40,8 @@ pub record EntryRead (n t : ℕ) (bytes : List ℕ) (before : List Entry) (place
   pub fit : entry_fits n t e ≡ true
   pub new : is_named e.number.0 before ≡ false
 
-fit_of : (n t : ℕ) (e : Entry) → bad_round t e.round.0 ≡ false → nat_le n e.number.0 ≡ false → is_bad_lost n e.number.0 e.lost ≡ false → entry_fits n t e ≡ true
+fit_of : (n t : ℕ) (e : Entry) → bad_round t e.round.0 ≡ false → nat_le n e.number.0 ≡ false → is_bad_lost n e.number.0 e.lost ≡ false
+    → entry_fits n t e ≡ true
 fit_of n t e round number lost = rw (round, number, lost) refl
 
 passes_one : (b : Bool) (f : Refusal) (u : ⊤) → unless_fault ((b, f) ∷ []) ≡ Ok u → b ≡ false
@@ -55,7 +57,8 @@ pub unless_one : {X : Type 0} (b : Bool) (f : Refusal) (x y : X) → unless ((b,
 unless_one true f x y is = absurd cc
 unless_one false f x y is = (refl, cc)
 
-pub entry_read : (n t : ℕ) (bytes : List ℕ) (before : List Entry) (place : ℕ) (next : Entry × ℕ) → entry_at n t bytes before place ≡ Ok next → EntryRead n t bytes before place next.0 next.1
+pub entry_read : (n t : ℕ) (bytes : List ℕ) (before : List Entry) (place : ℕ) (next : Entry × ℕ) → entry_at n t bytes before place ≡ Ok next
+    → EntryRead n t bytes before place next.0 next.1
 unfolding entry_at
 entry_read n t bytes before place next is =
     let r = next_inv (λ (e : Refusal). e) (number_at bytes place) _ next is in
@@ -81,14 +84,16 @@ entry_read n t bytes before place next is =
 
 -- how entries that were read begin
 pub entries_read : (n t : ℕ) (bytes : List ℕ) (place : ℕ) (all : List Entry × ℕ) → read_entries n t bytes place ≡ Ok all
-    → (count : Decoded) × (number_at bytes place ≡ Ok count) × (count.value ≤ t) × (read_several (entry_at n t bytes) count.value count.next ≡ Ok all)
+    → (count : Decoded) × (number_at bytes place ≡ Ok count) × (count.value ≤ t)
+    × (read_several (entry_at n t bytes) count.value count.next ≡ Ok all)
 unfolding read_entries
 entries_read n t bytes place all is =
     let count = next_inv (λ (e : Refusal). e) (number_at bytes place) _ all is in
     let few = next_inv (λ (e : Refusal). e) (unless_fault ((nat_lt t count.0.value, refusal.Entry) ∷ [])) _ all count.2 in
     (count.0, count.1, ltb-false t count.0.value (passes_one (nat_lt t count.0.value) refusal.Entry few.0 few.1), few.2)
 
-pub read_entries_fit : (n t : ℕ) (bytes : List ℕ) (place : ℕ) (all : List Entry × ℕ) → read_entries n t bytes place ≡ Ok all → (entries_fit n t all.0 ≡ true) × (length all.0 ≤ t)
+pub read_entries_fit : (n t : ℕ) (bytes : List ℕ) (place : ℕ) (all : List Entry × ℕ) → read_entries n t bytes place ≡ Ok all
+    → (entries_fit n t all.0 ≡ true) × (length all.0 ≤ t)
 unfolding entries_fit
 read_entries_fit n t bytes place all is =
     let r = entries_read n t bytes place all is in

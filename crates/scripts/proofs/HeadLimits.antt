@@ -1,4 +1,4 @@
--- What is known of n and t that were read. Assumes nothing.
+-- What is known of n and t that were read.
 use Rattle.std.proofs.Common.{◌≡◌, ℕ, ◌≤◌, true, List, Ok, arith}
 use Rattle.std.proofs.lemmas.Bool.Decides.{nat_tests}
 use Rattle.base.specs.declared.refusal.Refusal.{Refusal}

@@ -1,4 +1,4 @@
--- A script that is written reads back, and nothing else reads so. Assumes nothing.
+-- A script that is written reads back, and nothing else reads so.
 use Rattle.std.proofs.Common.{◌≡◌, ℕ, ◌+◌, ◌<◌, ◌≤◌, ◌==◌, Bool, true, false, not, nat_le, nat_lt, List, [], ◌∷◌, ◌++◌, length, drop, Ok, Err, Result, sym, refl, ap, ◌∙◌, append_assoc, append-nil, arith, length-append}
 use Rattle.std.specs.List.{flat_map, AllByRecursion}
 use Rattle.std.proofs.lemmas.List.{drop_all, length-drop}
@@ -36,7 +36,8 @@ mapped up (Err e) x is = absurd cc
 
 -- ---- things one after another
 
-written_more : {X : Type 0} (numbers : X → List ℕ) (before : List X) (x : X) → numbers_bytes (flat_map numbers (before ++ (x ∷ []))) ≡ numbers_bytes (flat_map numbers before) ++ numbers_bytes (numbers x)
+written_more : {X : Type 0} (numbers : X → List ℕ) (before : List X) (x : X)
+    → numbers_bytes (flat_map numbers (before ++ (x ∷ []))) ≡ numbers_bytes (flat_map numbers before) ++ numbers_bytes (numbers x)
 written_more numbers before x =
     let one : flat_map numbers (x ∷ []) ≡ numbers x = append-nil (numbers x) in
     rw (flat_map-append numbers before (x ∷ []), one) (written_all-append (flat_map numbers before) (numbers x))
@@ -48,15 +49,20 @@ AllMay May before (x ∷ xs) = May before x × AllMay May (before ++ (x ∷ []))
 
 module _ {X : Type 0} (numbers : X → List ℕ) (one : List X → ℕ → Result (X × ℕ) Refusal) (bytes : List ℕ) where
   -- where each is its numbers, all are
-  several_only : ((before : List X) (place : ℕ) (next : X × ℕ) → one before place ≡ Ok next → drop place bytes ≡ numbers_bytes (numbers next.0) ++ drop next.1 bytes)
-      → (at k : ℕ) (all : List X × ℕ) → read_several one k at ≡ Ok all → drop at bytes ≡ numbers_bytes (flat_map numbers all.0) ++ drop all.1 bytes
+  several_only : ((before : List X) (place : ℕ) (next : X × ℕ) → one before place ≡ Ok next
+      → drop place bytes ≡ numbers_bytes (numbers next.0) ++ drop next.1 bytes)
+      → (at k : ℕ) (all : List X × ℕ) → read_several one k at ≡ Ok all
+      → drop at bytes ≡ numbers_bytes (flat_map numbers all.0) ++ drop all.1 bytes
   several_only each at k all is =
       several_keeps one at (λ _ xs place. drop at bytes ≡ numbers_bytes (flat_map numbers xs) ++ drop place bytes) (rw written_all-nil refl) (λ _ before place next on read.
       on ∙ rw (each before place next read, written_more numbers before next.0, append_assoc) refl) k all is
 
   module _ (May : List X → X → Type 0) where
-    several_back : ((before : List X) (x : X) (place : ℕ) (behind : List ℕ) → May before x → drop place bytes ≡ numbers_bytes (numbers x) ++ behind → one before place ≡ Ok (x, place + length (numbers_bytes (numbers x))))
-        → (before xs : List X) (at place : ℕ) (behind : List ℕ) → read_several one (length before) at ≡ Ok (before, place) → AllMay May before xs → drop place bytes ≡ numbers_bytes (flat_map numbers xs) ++ behind
+    several_back : ((before : List X) (x : X) (place : ℕ) (behind : List ℕ) → May before x
+        → drop place bytes ≡ numbers_bytes (numbers x) ++ behind
+        → one before place ≡ Ok (x, place + length (numbers_bytes (numbers x))))
+        → (before xs : List X) (at place : ℕ) (behind : List ℕ) → read_several one (length before) at ≡ Ok (before, place)
+        → AllMay May before xs → drop place bytes ≡ numbers_bytes (flat_map numbers xs) ++ behind
         → read_several one (length (before ++ xs)) at ≡ Ok (before ++ xs, place + length (numbers_bytes (flat_map numbers xs)))
     several_back each before [] at place behind so may is =
         let e : place ≡ place + length (numbers_bytes []) = omega (arith, ap length written_all-nil) in
@@ -74,15 +80,18 @@ module _ {X : Type 0} (numbers : X → List ℕ) (one : List X → ℕ → Resul
 
 -- ---- numbers
 
-number_at_back : (bytes : List ℕ) (place n : ℕ) (behind : List ℕ) → n < number_limit → drop place bytes ≡ number_bytes n ++ behind → number_at bytes place ≡ Ok (record { value = n; next = place + length (number_bytes n) })
+number_at_back : (bytes : List ℕ) (place n : ℕ) (behind : List ℕ) → n < number_limit → drop place bytes ≡ number_bytes n ++ behind
+    → number_at bytes place ≡ Ok (record { value = n; next = place + length (number_bytes n) })
 number_at_back bytes place n behind small is = rw (number_back n place bytes behind small is) refl
 
-number_at_only : (bytes : List ℕ) (place : ℕ) (d : Decoded) → AllByRecursion (λ b. b < 256) bytes → number_at bytes place ≡ Ok d → (d.value < number_limit) × (drop place bytes ≡ number_bytes d.value ++ drop d.next bytes)
+number_at_only : (bytes : List ℕ) (place : ℕ) (d : Decoded) → AllByRecursion (λ b. b < 256) bytes → number_at bytes place ≡ Ok d
+    → (d.value < number_limit) × (drop place bytes ≡ number_bytes d.value ++ drop d.next bytes)
 number_at_only bytes place d all is =
     let o = number_only bytes place d all (mapped (λ (e : NumberFault). e.refusal) (read_number bytes place) d is) in
     (o.0, o.2)
 
-three_are : (r q m : ℕ) (behind : List ℕ) → numbers_bytes (r ∷ q ∷ m ∷ []) ++ behind ≡ number_bytes r ++ (number_bytes q ++ (number_bytes m ++ behind))
+three_are : (r q m : ℕ) (behind : List ℕ)
+    → numbers_bytes (r ∷ q ∷ m ∷ []) ++ behind ≡ number_bytes r ++ (number_bytes q ++ (number_bytes m ++ behind))
 three_are r q m behind = fields_are r q m [] behind ∙ rw written_all-nil refl
 
 -- ---- entries
@@ -109,8 +118,10 @@ small n t e kind fit = record {
   good_lost = grind (arith, nat_tests);
 }
 
-entry_back : (n t : ℕ) (bytes : List ℕ) → is_company n t ≡ true → (before : List Entry) (e : Entry) (place : ℕ) (behind : List ℕ) → MayStand n t before e
-    → drop place bytes ≡ numbers_bytes (entry_numbers e) ++ behind → entry_at n t bytes before place ≡ Ok (e, place + length (numbers_bytes (entry_numbers e)))
+entry_back : (n t : ℕ) (bytes : List ℕ) → is_company n t ≡ true → (before : List Entry) (e : Entry) (place : ℕ) (behind : List ℕ)
+    → MayStand n t before e
+    → drop place bytes ≡ numbers_bytes (entry_numbers e) ++ behind
+    → entry_at n t bytes before place ≡ Ok (e, place + length (numbers_bytes (entry_numbers e)))
 unfolding entry_at
 entry_back n t bytes kind before e place behind may is =
     let s = small n t e kind may.fit in
@@ -129,7 +140,8 @@ entry_back n t bytes kind before e place behind may is =
     in
     rw (a, s.good_round, b, s.good_number, may.new, d, s.good_lost) (ap (λ p. Ok (e, p)) end)
 
-entry_only : (n t : ℕ) (bytes : List ℕ) (before : List Entry) (place : ℕ) (e : Entry) (end : ℕ) → AllByRecursion (λ b. b < 256) bytes → EntryRead n t bytes before place e end
+entry_only : (n t : ℕ) (bytes : List ℕ) (before : List Entry) (place : ℕ) (e : Entry) (end : ℕ) → AllByRecursion (λ b. b < 256) bytes
+    → EntryRead n t bytes before place e end
     → (e.lost.mask < number_limit) × (drop place bytes ≡ numbers_bytes (entry_numbers e) ++ drop end bytes)
 entry_only n t bytes before place e end all r =
     let one = number_at_only bytes place r.round all r.at_round in
@@ -148,7 +160,8 @@ named_at : (q : ℕ) (before : List Entry) (e : Entry) (es : List Entry) → is_
 named_at q [] e es none = grind (arith, nat_tests)
 named_at q (b ∷ before) e es none = let ih = named_at q before e es in grind (arith, nat_tests)
 
-stands_at : (n t : ℕ) (before : List Entry) (e : Entry) (es : List Entry) → entries_fit n t (before ++ (e ∷ es)) ≡ true → (entry_fits n t e ≡ true) × (is_named e.number.0 before ≡ false)
+stands_at : (n t : ℕ) (before : List Entry) (e : Entry) (es : List Entry) → entries_fit n t (before ++ (e ∷ es)) ≡ true
+    → (entry_fits n t e ≡ true) × (is_named e.number.0 before ≡ false)
 unfolding entries_fit
 stands_at n t [] e es fit = (grind (arith, nat_tests), refl)
 stands_at n t (b ∷ before) e es fit =
@@ -156,7 +169,8 @@ stands_at n t (b ∷ before) e es fit =
     let other = named_at b.number.0 before e es in
     (ih.0, grind (arith, nat_tests))
 
-entries_may : (n t : ℕ) (before es : List Entry) → entries_fit n t (before ++ es) ≡ true → AllByRecursion (λ e. e.lost.mask < number_limit) es
+entries_may : (n t : ℕ) (before es : List Entry) → entries_fit n t (before ++ es) ≡ true
+    → AllByRecursion (λ e. e.lost.mask < number_limit) es
     → AllMay (MayStand n t) before es
 entries_may n t before [] fit masks = tt
 entries_may n t before (e ∷ es) fit (mask, masks) =
@@ -170,7 +184,8 @@ unless_two true b f e x y is = absurd cc
 unless_two false true f e x y is = absurd cc
 unless_two false false f e x y is = cc
 
-head_only : (places : ℕ) (bytes : List ℕ) (h : Head) → AllByRecursion (λ b. b < 256) bytes → read_head places bytes ≡ Ok h → bytes ≡ number_bytes h.n ++ (number_bytes h.t ++ drop h.next bytes)
+head_only : (places : ℕ) (bytes : List ℕ) (h : Head) → AllByRecursion (λ b. b < 256) bytes → read_head places bytes ≡ Ok h
+    → bytes ≡ number_bytes h.n ++ (number_bytes h.t ++ drop h.next bytes)
 unfolding read_head
 head_only places bytes h all is =
     let n = next_inv (λ (e : Refusal). e) (number_at bytes 0) _ h is in
@@ -180,7 +195,8 @@ head_only places bytes h all is =
     let two = number_at_only bytes n.0.next t.0 all t.1 in
     rw (← same) (one.1 ∙ ap (λ l. number_bytes n.0.value ++ l) two.1)
 
-head_back : (places n t : ℕ) (bytes behind : List ℕ) → is_company n t ≡ true → n ≤ places → bytes ≡ number_bytes n ++ (number_bytes t ++ behind)
+head_back : (places n t : ℕ) (bytes behind : List ℕ) → is_company n t ≡ true → n ≤ places
+    → bytes ≡ number_bytes n ++ (number_bytes t ++ behind)
     → read_head places bytes ≡ Ok (record { n = n; t = t; next = 0 + length (number_bytes n) + length (number_bytes t) })
 unfolding read_head
 head_back places n t bytes behind limits room is =
@@ -191,11 +207,14 @@ head_back places n t bytes behind limits room is =
 
 -- the numbers of a script, one after another
 parts_are : (n t : ℕ) (images : List ℕ) (count : ℕ) (entries behind : List ℕ)
-    → numbers_bytes (n ∷ t ∷ (images ++ (count ∷ entries))) ++ behind ≡ number_bytes n ++ (number_bytes t ++ (numbers_bytes images ++ (number_bytes count ++ (numbers_bytes entries ++ behind))))
+    → numbers_bytes (n ∷ t ∷ (images ++ (count ∷ entries))) ++ behind
+    ≡ number_bytes n ++ (number_bytes t ++ (numbers_bytes images ++ (number_bytes count ++ (numbers_bytes entries ++ behind))))
 parts_are n t images count entries behind = rw (written_all-cons, written_all-cons, written_all-append, written_all-cons) (simp append_assoc refl)
 
-entries_only : (n t : ℕ) (bytes : List ℕ) (place : ℕ) (es : List Entry × ℕ) → AllByRecursion (λ b. b < 256) bytes → read_entries n t bytes place ≡ Ok es
-    → AllByRecursion (λ e. e.lost.mask < number_limit) es.0 × (drop place bytes ≡ number_bytes (length es.0) ++ (numbers_bytes (flat_map entry_numbers es.0) ++ drop es.1 bytes))
+entries_only : (n t : ℕ) (bytes : List ℕ) (place : ℕ) (es : List Entry × ℕ) → AllByRecursion (λ b. b < 256) bytes
+    → read_entries n t bytes place ≡ Ok es
+    → AllByRecursion (λ e. e.lost.mask < number_limit) es.0
+    × (drop place bytes ≡ number_bytes (length es.0) ++ (numbers_bytes (flat_map entry_numbers es.0) ++ drop es.1 bytes))
 entries_only n t bytes place es all is =
     let r = entries_read n t bytes place es is in
     let count = r.0 in
@@ -210,7 +229,8 @@ entries_only n t bytes place es all is =
     let one = number_at_only bytes place count all r.1 in
     (masks, rw long (one.1 ∙ ap (λ l. number_bytes count.value ++ l) behind))
 
-entries_back : (n t : ℕ) (bytes : List ℕ) (place : ℕ) (es : List Entry) (behind : List ℕ) → is_company n t ≡ true → entries_fit n t es ≡ true → length es ≤ t → AllByRecursion (λ e. e.lost.mask < number_limit) es
+entries_back : (n t : ℕ) (bytes : List ℕ) (place : ℕ) (es : List Entry) (behind : List ℕ) → is_company n t ≡ true
+    → entries_fit n t es ≡ true → length es ≤ t → AllByRecursion (λ e. e.lost.mask < number_limit) es
     → drop place bytes ≡ number_bytes (length es) ++ (numbers_bytes (flat_map entry_numbers es) ++ behind)
     → read_entries n t bytes place ≡ Ok (es, place + length (number_bytes (length es)) + length (numbers_bytes (flat_map entry_numbers es)))
 unfolding read_entries
@@ -227,12 +247,16 @@ any_may before (x ∷ xs) = (tt, any_may (before ++ (x ∷ [])) xs)
 
 module _ {K : Type 0} (kind : Kind K) where
   module _ (laws : IsKind kind) where
-    image_at : (bytes : List ℕ) (place : ℕ) (next : K × ℕ) → AllByRecursion (λ b. b < 256) bytes → proposal_at kind bytes place ≡ Ok next → drop place bytes ≡ numbers_bytes (kind.image next.0) ++ drop next.1 bytes
+    image_at : (bytes : List ℕ) (place : ℕ) (next : K × ℕ) → AllByRecursion (λ b. b < 256) bytes → proposal_at kind bytes place ≡ Ok next
+        → drop place bytes ≡ numbers_bytes (kind.image next.0) ++ drop next.1 bytes
     image_at bytes place next all is = proposal_only kind laws bytes place next all (mapped refusal_of (read_proposal kind bytes place) next is)
 
-    parts_only : (places : ℕ) (bytes : List ℕ) (head : Head) (ps : List K × ℕ) (es : List Entry × ℕ) → AllByRecursion (λ b. b < 256) bytes → read_head places bytes ≡ Ok head
-        → read_several (λ _. proposal_at kind bytes) head.n head.next ≡ Ok ps → read_entries head.n head.t bytes ps.1 ≡ Ok es → length bytes ≤ es.1
-        → MayBeRead places (record { n = head.n; t = head.t; entries = es.0 }) ps.0 × (bytes ≡ numbers_bytes (script_numbers kind (record { n = head.n; t = head.t; entries = es.0 }) ps.0))
+    parts_only : (places : ℕ) (bytes : List ℕ) (head : Head) (ps : List K × ℕ) (es : List Entry × ℕ) → AllByRecursion (λ b. b < 256) bytes
+        → read_head places bytes ≡ Ok head
+        → read_several (λ _. proposal_at kind bytes) head.n head.next ≡ Ok ps → read_entries head.n head.t bytes ps.1 ≡ Ok es
+        → length bytes ≤ es.1
+        → MayBeRead places (record { n = head.n; t = head.t; entries = es.0 }) ps.0
+        × (bytes ≡ numbers_bytes (script_numbers kind (record { n = head.n; t = head.t; entries = es.0 }) ps.0))
     parts_only places bytes head ps es all h p q over =
         let is = head_is places bytes head h in
         let fit = read_entries_fit head.n head.t bytes ps.1 es q in
@@ -246,7 +270,8 @@ module _ {K : Type 0} (kind : Kind K) where
           chain ∙ sym (parts_are head.n head.t images (length es.0) numbers []) ∙ append-nil _,
         )
 
-    all_only : (places : ℕ) (bytes : List ℕ) (all : ScriptValues × List K) → AllByRecursion (λ b. b < 256) bytes → read_script kind places bytes ≡ Ok all
+    all_only : (places : ℕ) (bytes : List ℕ) (all : ScriptValues × List K) → AllByRecursion (λ b. b < 256) bytes
+        → read_script kind places bytes ≡ Ok all
         → MayBeRead places all.0 all.1 × (bytes ≡ numbers_bytes (script_numbers kind all.0 all.1))
     unfolding read_script
     all_only places bytes all byte is =
@@ -260,12 +285,14 @@ module _ {K : Type 0} (kind : Kind K) where
     script_only places bytes s ps all is = all_only places bytes (s, ps) all is
 
   module _ (laws : IsKind kind) where
-    image_back : (bytes : List ℕ) (x : K) (place : ℕ) (behind : List ℕ) → drop place bytes ≡ numbers_bytes (kind.image x) ++ behind → proposal_at kind bytes place ≡ Ok (x, place + length (numbers_bytes (kind.image x)))
+    image_back : (bytes : List ℕ) (x : K) (place : ℕ) (behind : List ℕ) → drop place bytes ≡ numbers_bytes (kind.image x) ++ behind
+        → proposal_at kind bytes place ≡ Ok (x, place + length (numbers_bytes (kind.image x)))
     image_back bytes x place behind is = rw (proposal_judged kind bytes (kind.image x) behind place (wide (kind.image x) (laws.small x)) (laws.long x) is, laws.back x) refl
 
     -- a script that there may be is refused just if bytes stand behind it
     script_judged : (places : ℕ) (s : ScriptValues) (ps : List K) (behind : List ℕ) → MayBeRead places s ps
-        → read_script kind places (numbers_bytes (script_numbers kind s ps) ++ behind) ≡ unless ((nat_lt 0 (length behind), Surplus) ∷ []) (s, ps)
+        → read_script kind places (numbers_bytes (script_numbers kind s ps) ++ behind)
+        ≡ unless ((nat_lt 0 (length behind), Surplus) ∷ []) (s, ps)
     unfolding read_script
     script_judged places s ps behind st =
         let bytes = numbers_bytes (script_numbers kind s ps) ++ behind in

@@ -1,4 +1,4 @@
--- Steps of reading a script. Assumes nothing.
+-- Steps of reading a script.
 use Rattle.std.proofs.Common.{◌≡◌, ℕ, ◌<◌, ◌≤◌, List, length, Ok, Err, Result, refl, arith}
 use Rattle.std.specs.Result.{result_map_both}
 use Rattle.std.proofs.lemmas.Bool.Decides.{nat_tests}
@@ -10,7 +10,8 @@ use Rattle.scripts.specs.ScriptReading.{read_several, proposal_at, read_head, re
 use Rattle.proposals.specs.Kinds.{Kind}
 
 -- where only the place behind is told, something was read
-pub told_place : {X : Type 0} (r : Result (X × ℕ) Refusal) (next : ℕ) → result_map_both (λ x. x.1) (λ e. e) r ≡ Ok next → (x : X) × (r ≡ Ok (x, next))
+pub told_place : {X : Type 0} (r : Result (X × ℕ) Refusal) (next : ℕ) → result_map_both (λ x. x.1) (λ e. e) r ≡ Ok next
+    → (x : X) × (r ≡ Ok (x, next))
 told_place (Ok (x, place)) next is = (x, cc)
 told_place (Err e) next is = absurd cc
 
@@ -30,7 +31,8 @@ module _ {K : Type 0} (kind : Kind K) (places : ℕ) (bytes : List ℕ) where
   head_stop e is = rw is refl
 
   module _ (head : Head) (h : read_head places bytes ≡ Ok head) where
-    pub proposals_stop : (e : Refusal) → read_several (λ _. proposal_at kind bytes) head.n head.next ≡ Err e → read_script kind places bytes ≡ Err e
+    pub proposals_stop : (e : Refusal) → read_several (λ _. proposal_at kind bytes) head.n head.next ≡ Err e
+        → read_script kind places bytes ≡ Err e
     unfolding read_script
     proposals_stop e is = rw (h, is) refl
 

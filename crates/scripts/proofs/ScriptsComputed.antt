@@ -1,4 +1,4 @@
--- The worked scripts, by computation. Assumes nothing.
+-- The worked scripts, by computation.
 use Rattle.std.proofs.Common.{◌≡◌, Some, refl, lit≤}
 use native.Mathlib.Decide.{dec_le}
 use Rattle.numbers.specs.Numbers.{read_groups}

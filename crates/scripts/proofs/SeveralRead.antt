@@ -1,4 +1,4 @@
--- Several things one after another. Assumes nothing.
+-- Several things one after another.
 use Rattle.std.proofs.Common.{◌≡◌, ℕ, zero, suc, ◌+◌, ◌-◌, ◌<◌, List, [], ◌∷◌, ◌++◌, length, Ok, Err, Result, refl, arith, length-append}
 use Rattle.base.specs.declared.refusal.Refusal.{Refusal}
 use Rattle.frames.proofs.FrameRoundTrip.{next_inv}
@@ -10,7 +10,8 @@ module _ {X : Type 0} (one : List X → ℕ → Result (X × ℕ) Refusal) (at :
   several_none = refl
 
   -- the next one is read, behind those before it
-  pub several_more : (i place : ℕ) (before : List X) (next : X × ℕ) → read_several one i at ≡ Ok (before, place) → one before place ≡ Ok next → read_several one (i + 1) at ≡ Ok (before ++ (next.0 ∷ []), next.1)
+  pub several_more : (i place : ℕ) (before : List X) (next : X × ℕ) → read_several one i at ≡ Ok (before, place)
+      → one before place ≡ Ok next → read_several one (i + 1) at ≡ Ok (before ++ (next.0 ∷ []), next.1)
   unfolding read_several
   several_more i place before next so is = let e : i + 1 ≡ suc i = omega arith in rw (e, so, is) refl
 
@@ -20,7 +21,8 @@ module _ {X : Type 0} (one : List X → ℕ → Result (X × ℕ) Refusal) (at :
   past i (suc d) e is = let z : suc d + i ≡ suc (d + i) = omega arith in rw (z, past i d e is) refl
 
   -- the next one is refused, and so all are
-  pub several_stop : (i k place : ℕ) (before : List X) (e : Refusal) → i < k → read_several one i at ≡ Ok (before, place) → one before place ≡ Err e → read_several one k at ≡ Err e
+  pub several_stop : (i k place : ℕ) (before : List X) (e : Refusal) → i < k → read_several one i at ≡ Ok (before, place)
+      → one before place ≡ Err e → read_several one k at ≡ Err e
   unfolding read_several
   several_stop i k place before e more so is =
       let here : read_several one (suc i) at ≡ Err e = rw (so, is) refl in
@@ -30,7 +32,8 @@ module _ {X : Type 0} (one : List X → ℕ → Result (X × ℕ) Refusal) (at :
 
   -- what holds of none, and of one more where it held of those before, holds of all
   pub several_keeps : (P : ℕ → List X → ℕ → Type 0) → P 0 [] at
-      → ((k : ℕ) (before : List X) (place : ℕ) (next : X × ℕ) → P k before place → one before place ≡ Ok next → P (suc k) (before ++ (next.0 ∷ [])) next.1)
+      → ((k : ℕ) (before : List X) (place : ℕ) (next : X × ℕ) → P k before place → one before place ≡ Ok next
+      → P (suc k) (before ++ (next.0 ∷ [])) next.1)
       → (k : ℕ) (all : List X × ℕ) → read_several one k at ≡ Ok all → P k all.0 all.1
   unfolding read_several
   several_keeps P none more zero all is = let e : ([], at) ≡ all = cc in rw (← e) none

@@ -1,4 +1,4 @@
--- Which boxes fall by a script. Assumes nothing.
+-- Which boxes fall by a script. To be believed for scripts and reports.
 use Rattle.std.specs.Prelude.{ℕ, ◌+◌, Bool, true, not, ◌&&◌, ◌||◌, List, [], ◌∷◌, ◌==◌, nat_le, nat_lt}
 use Rattle.std.specs.List.{list_any}
 use Rattle.sets.specs.Companies.{is_bad_lost}

@@ -3,3 +3,15 @@ pub mod ScriptExamples
 pub mod ScriptLaws
 pub mod ScriptReading
 pub mod ScriptValues
+pub use Rattle.base.specs.Limits
+pub use Rattle.base.specs.Refusals
+pub use Rattle.base.specs.Results
+pub use Rattle.base.specs.declared.refusal.Refusal
+pub use Rattle.frames.specs.FrameFaults
+pub use Rattle.frames.specs.Frames
+pub use Rattle.numbers.specs.Numbers
+pub use Rattle.numbers.specs.declared.codec.Decoded
+pub use Rattle.proposals.specs.Kinds
+pub use Rattle.proposals.specs.Pieces
+pub use Rattle.sets.specs.Companies
+pub use Rattle.sets.specs.Masks

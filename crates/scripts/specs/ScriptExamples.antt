@@ -1,4 +1,4 @@
--- Worked scripts, with bytes in hexadecimal. Assumes nothing.
+-- Worked scripts, with bytes in hexadecimal. To be believed for scripts and reports.
 use Rattle.std.specs.Prelude.{◌≡◌, ℕ, ◌≤◌, ◌||◌, List, [], ◌∷◌, Ok, Err, Result, ◌==◌}
 use Rattle.std.proofs.Common.{lit≤}
 use Rattle.base.specs.declared.refusal.Refusal.{Refusal}

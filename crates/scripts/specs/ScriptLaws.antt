@@ -1,4 +1,4 @@
--- Laws of scripts as bytes. Assumes nothing.
+-- Laws of scripts as bytes. To be believed for scripts and reports.
 use Rattle.std.specs.Prelude.{◌≡◌, ℕ, ◌<◌, ◌≤◌, List, [], ◌∷◌, ◌++◌, length, Ok, Err}
 use Rattle.std.specs.List.{flat_map, AllByRecursion}
 use Rattle.base.specs.declared.refusal.Refusal.{Refusal}
@@ -28,19 +28,30 @@ script_numbers kind s ps = s.n ∷ s.t ∷ (flat_map kind.image ps ++ (length s.
 module _ {K : Type 0} (kind : Kind K) where
   -- what is read is a script within the limits, and the bytes are those of its numbers
   abbrev pub ScriptReadsOnly : Type 0
-  ScriptReadsOnly = (places : ℕ) (bytes : List ℕ) (s : ScriptValues) (ps : List K) → AllByRecursion (λ b. b < 256) bytes → read_script kind places bytes ≡ Ok (s, ps)
+  ScriptReadsOnly =
+      (places : ℕ) (bytes : List ℕ) (s : ScriptValues) (ps : List K)
+      → AllByRecursion (λ b. b < 256) bytes
+      → read_script kind places bytes ≡ Ok (s, ps)
       → MayBeRead places s ps × (bytes ≡ numbers_bytes (script_numbers kind s ps))
 
   -- and every script within the limits reads back as itself
   abbrev pub ScriptReadsBack : Type 0
-  ScriptReadsBack = (places : ℕ) (s : ScriptValues) (ps : List K) → MayBeRead places s ps → read_script kind places (numbers_bytes (script_numbers kind s ps)) ≡ Ok (s, ps)
+  ScriptReadsBack =
+      (places : ℕ) (s : ScriptValues) (ps : List K)
+      → MayBeRead places s ps
+      → read_script kind places (numbers_bytes (script_numbers kind s ps)) ≡ Ok (s, ps)
 
-  -- with more bytes behind it, it is refused for these
+  -- with more bytes behind it, it is refused surplus
   abbrev pub ScriptRefusesSurplus : Type 0
-  ScriptRefusesSurplus = (places b : ℕ) (behind : List ℕ) (s : ScriptValues) (ps : List K) → MayBeRead places s ps
+  ScriptRefusesSurplus =
+      (places b : ℕ) (behind : List ℕ) (s : ScriptValues) (ps : List K)
+      → MayBeRead places s ps
       → read_script kind places (numbers_bytes (script_numbers kind s ps) ++ (b ∷ behind)) ≡ Err Surplus
 
   -- bytes are judged as they are read: a fault stays the one told with more bytes behind it, unless it was that they end too soon
   abbrev pub ScriptFaultStays : Type 0
-  ScriptFaultStays = (places : ℕ) (bytes behind : List ℕ) (e : Refusal) → read_script kind places bytes ≡ Err e → (e ≡ Short → ⊥)
+  ScriptFaultStays =
+      (places : ℕ) (bytes behind : List ℕ) (e : Refusal)
+      → read_script kind places bytes ≡ Err e
+      → (e ≡ Short → ⊥)
       → read_script kind places (bytes ++ behind) ≡ Err e

@@ -1,20 +1,27 @@
-// Which box falls, and when.
+// Which box falls, and in which round.
 ghost use Rattle.std.specs.Prelude.{◌≡◌, false};
 ghost use Rattle.sets.specs.Masks.{set_of};
 
 use sets::{BoxNumber, BoxSet, RoundNumber};
 
-// A box falls in a round, and the boxes of its lost set do not hear what it sends in it.
+/// The fall of a box: the round in which it falls, its number, and the boxes that do not hear what it sends in that round.
 #[derive(Clone, Copy, Debug, PartialEq, Eq)]
 pub struct Entry {
+    /// The round, 1 to t + 1 in a script.
     pub round: RoundNumber,
+    /// The number of the box, below n in a script.
     pub number: BoxNumber,
+    /// The lost set: boxes below n in a script, and not the box itself.
     pub lost: BoxSet,
 }
 
-// What fills places that no entry has taken yet.
+/// The entry that fills places which none has taken yet: box 0 falls in round 1, and all hear it.
 impl Default for Entry {
-    ghost is_default = { λ e. e ≡ record { round = record { 0 = 1 }; number = record { 0 = 0 }; lost = set_of (λ _. false) } };
+    ghost is_default = { λ e. e ≡ record {
+      round = record { 0 = 1 };
+      number = record { 0 = 0 };
+      lost = set_of (λ _. false);
+    } };
 
     fn default() -> Entry {
         Entry {

@@ -7,8 +7,9 @@ ghost use Rattle.scripts.specs.ScriptLaws.{ScriptReadsOnly, ScriptReadsBack, Scr
 use super::script::MOST_FALLS;
 use proposals::Proposal;
 
-/// Bytes that are read as a script are those of its numbers; the numbers of every script that keeps the limits read back as it, and with more bytes
-/// behind them are refused. A fault stays the one told, whatever bytes follow, unless it was that they end too soon. The rest are worked examples.
+/// One fewer than the largest company may fall (`MOST_FALLS`). Bytes that are read as a script are those of its numbers; the numbers of every
+/// script that keeps the limits read back as it, and with more bytes behind them are refused surplus (4). A refusal stays the one told, whatever
+/// bytes follow, unless it was short (1). The rest are worked examples.
 pub fn scripts_laws<K: Proposal>()
     ensures most { MOST_FALLS + 1 ≡ most_company }
     ensures only { ScriptReadsOnly K.kind }
@@ -16,5 +17,4 @@ pub fn scripts_laws<K: Proposal>()
     ensures surplus { ScriptRefusesSurplus K.kind }
     ensures fault { ScriptFaultStays K.kind }
     ensures examples { Examples }
-{
-}
+{}

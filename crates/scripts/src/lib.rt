@@ -1,12 +1,12 @@
-// Scripts: a company with its proposals, and which boxes fall in which rounds, as bytes.
+//! Scripts: a company with its proposals, and which boxes fall in which rounds, read from bytes.
 #![tactic(auto)]
 
 mod entry;
+mod laws;
 mod reader;
 mod script;
-mod laws;
 
 pub use entry::Entry;
+pub use laws::scripts_laws;
 pub use reader::read_script;
 pub use script::{MOST_FALLS, Script};
-pub use laws::scripts_laws;

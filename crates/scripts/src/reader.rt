@@ -1,21 +1,21 @@
-// Reading a script. Each number or image is judged when it is read, so the first fault met is the one told.
+// Reading a script. Each number or image is judged when it is read, so the fault that is met first is told.
 ghost use Rattle.std.specs.Prelude.{◌≡◌, length, true};
 ghost use Rattle.std.specs.Result.{result_map_both};
 ghost use Rattle.sets.specs.Companies.{is_company};
 ghost use Rattle.scripts.specs.Entries.{is_named};
 ghost use Rattle.scripts.specs.ScriptValues.{values_of};
-ghost use Rattle.scripts.specs.ScriptReading.{number_at, read_head, read_several, proposal_at, entry_at, read_entries, read_script, places_after};
+ghost use Rattle.scripts.specs.ScriptReading.{number_at, read_head, proposal_at, read_proposals, entry_at, read_entries, read_script, places_after};
 
 use super::entry::Entry;
 use super::script::{MOST_FALLS, Script};
 use arrayvec::ArrayVec;
-use frames::read_proposal;
-use proposals::Proposal;
 use base::Refusal;
+use frames::read_proposal;
 use numbers::{Decoded, read_number};
+use proposals::Proposal;
 use sets::{BoxNumber, BoxSet, RoundNumber, is_company};
 
-// The number at a place, and the place behind it. Bytes and place stay two parameters, as in the reader of a frame.
+// The number at a place, and the place behind it.
 fn number_at(bytes: &[u8], at: usize) -> Result<Decoded, Refusal>
     ensures { result ≡ number_at bytes.now at }
 {
@@ -30,7 +30,7 @@ struct Head {
     next: usize,
 }
 
-// With room for so many proposals.
+// n and t at the front of the bytes, where there are so many places for proposals.
 #[tactic(auto, unfolding(crate::specs::ScriptReading::read_head))]
 fn read_head(bytes: &[u8], places: usize) -> Result<Head, Refusal>
     ensures { result ≡ read_head places bytes.now }
@@ -57,10 +57,11 @@ fn proposal_at<K: Proposal>(bytes: &[u8], at: usize) -> Result<(K, usize), Refus
     read_proposal(bytes, at).map_err(|fault| fault.refusal())
 }
 
-// Judges so many proposals, and tells the place behind the last image.
+// Judges n proposals from a place on, and tells the place behind the last image.
 #[tactic(auto, using(crate::proofs::SeveralRead::reading))]
 fn judge_proposals<K: Proposal>(bytes: &[u8], at: usize, n: u32) -> Result<usize, Refusal>
-    ensures { result ≡ result_map_both (λ x. x.1) (λ e. e) (read_several (λ _. proposal_at K.kind bytes.now) n at) }
+    ensures { let read = read_proposals K.kind bytes.now n at in
+        result ≡ result_map_both (λ x. x.1) (λ e. e) read }
 {
     let mut next = at;
     for _ in 0..n {
@@ -70,10 +71,11 @@ fn judge_proposals<K: Proposal>(bytes: &[u8], at: usize, n: u32) -> Result<usize
     Ok(next)
 }
 
-// Reads a proposal into each of the places, and tells the place behind the last image.
+// Reads a proposal into each of the places, from a place in the bytes on, and tells the place behind the last image.
 #[tactic(auto, using(crate::proofs::SeveralRead::reading))]
 fn read_proposals<K: Proposal>(bytes: &[u8], at: usize, places: &mut [K]) -> Result<usize, Refusal>
-    ensures { result_map_both (λ end. (places.new, end)) (λ e. e) result ≡ read_several (λ _. proposal_at K.kind bytes.now) (length places.old) at }
+    ensures { let read = read_proposals K.kind bytes.now (length places.old) at in
+        result_map_both (λ end. (places.new, end)) (λ e. e) result ≡ read }
 {
     let mut next = at;
     for place in places.iter_mut() {
@@ -91,7 +93,7 @@ fn is_named(entries: &[Entry], q: BoxNumber) -> bool
     entries.iter().any(|entry| entry.number == q)
 }
 
-// The entry at a place, where these stand before it.
+// The entry at a place, where these entries stand before it, and the place behind it.
 #[tactic(auto, unfolding(crate::specs::ScriptReading::entry_at))]
 fn read_entry(
     bytes: &[u8],
@@ -137,7 +139,8 @@ fn read_entries(
     head: Head,
 ) -> Result<(ArrayVec<Entry, MOST_FALLS>, usize), Refusal>
     requires { is_company head.n head.t ≡ true }
-    ensures { result_map_both (λ r. (r.0.items, r.1)) (λ e. e) result ≡ read_entries head.n head.t bytes.now at }
+    ensures { let read = read_entries head.n head.t bytes.now at in
+        result_map_both (λ r. (r.0.items, r.1)) (λ e. e) result ≡ read }
 {
     let count = number_at(bytes, at)?;
     if count.value > head.t {
@@ -153,12 +156,21 @@ fn read_entries(
     Ok((entries, next))
 }
 
-// Reads the script that all the bytes make, lays its proposals into the places from the first on, and tells the rest. A refusal touches no place, so
-// the images are judged first and the proposals laid last: a copy would be an array of an open kind, which cannot be had.
+/// Reads the script that all the bytes make, and lays its proposals into the places from the first on. Places behind them keep what they held,
+/// and a refused call touches none.
+///
+/// The bytes are n, t, the images of n proposals, the count of entries, and each entry's round, box and lost set. Every number is refused where it
+/// is none: short (1), wide (2) or padded (3). Besides it refuses, in the order in which the bytes are read: company (11) if n or t is outside
+/// its limits; row (12) if there are fewer places than n; image (9) if no proposal has an image; entry (21) if there are more entries than t, and
+/// for an entry of round 0 or one above t + 1; stranger (5) if its box is not below n; entry (21) if an entry before it names the same box; set
+/// (8) if its lost set has a number not below n, or the box itself; surplus (4) if bytes follow.
 pub fn read_script<K: Proposal>(bytes: &[u8], places: &mut [K]) -> Result<Script, Refusal>
-    ensures answer { result_map_both values_of (λ e. e) result ≡ result_map_both (λ x. x.0) (λ e. e) (read_script K.kind (length places.old) bytes.now) }
-    ensures places { places.new ≡ places_after (read_script K.kind (length places.old) bytes.now) places.old }
+    ensures answer { let read = read_script K.kind (length places.old) bytes.now in
+        result_map_both values_of (λ e. e) result ≡ result_map_both (λ x. x.0) (λ e. e) read }
+    ensures places { let read = read_script K.kind (length places.old) bytes.now in
+        places.new ≡ places_after read places.old }
 {
+    // The images are read twice, once to judge and once to lay the proposals, since there is no room for a copy of them.
     let head = read_head(bytes, places.len())?;
     let next = judge_proposals::<K>(bytes, head.next, head.n)?;
     let (entries, end) = read_entries(bytes, next, head)?;
