@@ -1,2 +1,12 @@
 pub mod ReportLaws
 pub mod Reports
+pub use Rattle.base.specs.Buffers
+pub use Rattle.base.specs.Limits
+pub use Rattle.base.specs.Refusals
+pub use Rattle.base.specs.declared.refusal.Refusal
+pub use Rattle.machine.specs.Places
+pub use Rattle.machine.specs.RowCheck
+pub use Rattle.machine.specs.State
+pub use Rattle.machine.specs.declared.place.Standing
+pub use Rattle.proposals.specs.Kinds
+pub use Rattle.ringing.specs.RingingStates

@@ -1,4 +1,4 @@
--- The report of a ringing, a line for each box, and the line of a refusal. Assumes nothing.
+-- The report of a ringing, a line for each box, and the line of a refusal. To be believed for scripts and reports.
 use Rattle.std.specs.Prelude.{ℕ, not, List, [], ◌∷◌, ◌++◌, length, drop, Ok, Err, codes, decimal, Result, nat_lt}
 use Rattle.std.specs.List.{flat_map, enumerate_from}
 use Rattle.std.specs.Result.{result_map_both}

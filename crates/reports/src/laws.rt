@@ -5,13 +5,12 @@ ghost use Rattle.reports.specs.ReportLaws.{ReportLength, RefusalLength, Examples
 use super::report::{LONGEST_REFUSAL, LONGEST_REPORT};
 use proposals::Proposal;
 
-/// How long the line of a refusal can be, and a report in which all rounds are below 100, and that the constants are the room for them; and worked
-/// examples of both.
+/// How many bytes a report in which all rounds are below 100 has at most (`LONGEST_REPORT`), and the line of a refusal (`LONGEST_REFUSAL`); and
+/// worked examples of both.
 pub fn reports_laws<K: Proposal>()
     ensures room { LONGEST_REPORT ≡ longest_report }
     ensures refusal_room { LONGEST_REFUSAL ≡ longest_refusal }
     ensures report { ReportLength K.kind }
     ensures refusal { RefusalLength }
     ensures examples { Examples }
-{
-}
+{}

@@ -1,4 +1,4 @@
-// The bytes of a report and of a refusal's line, as they are gathered. Below 2^32, a number has ten digits at most.
+// The bytes of a report and of a refusal's line, as they are gathered. A number below 2^32 has at most ten digits.
 ghost use Rattle.std.specs.Prelude.{◌≡◌, ◌+◌, ◌≤◌, ◌++◌, length, map, codes, decimal};
 ghost use Rattle.base.specs.Buffers.{with_front, len_if_room};
 ghost use Rattle.base.specs.Limits.{most_company};
@@ -6,18 +6,19 @@ ghost use Rattle.machine.specs.Places.{place_state};
 ghost use Rattle.reports.specs.Reports.{spaced_numbers, line_numbers, box_line, report_text, refusal_line};
 
 use arrayvec::ArrayVec;
-use itoa::Buffer;
-use proposals::Proposal;
 use base::Refusal;
+use itoa::Buffer;
 use machine::{Place, Standing};
+use proposals::Proposal;
 use sets::{BoxNumber, MOST_COMPANY};
 
-// Room for a line: number, word, round and four numbers of an image, a space before each but the first, and the end.
+// Room for a line: the number, the word, the round and four numbers of an image, a space before each but the first, and the end.
 const LINE_ROOM: usize = 10 + 7 + 11 + 4 * 11 + 1;
 
-// Room for the line of a refusal: the word, a space, three digits, as the number is a byte, and the end.
+// Room for the line of a refusal: the word, a space, three digits, since the number is a byte, and the end.
 const REFUSAL_ROOM: usize = 7 + 1 + 3 + 1;
 
+// Room for a line for each box of the largest company.
 const REPORT_ROOM: usize = MOST_COMPANY as usize * LINE_ROOM;
 
 // Appends a space and the number.
@@ -47,7 +48,8 @@ fn push_image<K: Proposal, const N: usize>(text: &mut ArrayVec<u8, N>, proposal:
 #[tactic(auto, using(crate::proofs::LineLengths::tells))]
 fn push_told<K: Proposal, const N: usize>(text: &mut ArrayVec<u8, N>, standing: Standing<K>)
     requires { length text.old.items + 55 ≤ N }
-    ensures items { text.new.items ≡ text.old.items ++ spaced_numbers (line_numbers K.kind standing) }
+    ensures items { let told = spaced_numbers (line_numbers K.kind standing) in
+        text.new.items ≡ text.old.items ++ told }
     ensures len { length text.new.items ≤ length text.old.items + 55 }
 {
     match standing {
