@@ -78,8 +78,11 @@ module _ {K : Type 0} (kind : Kind K) (r : ℕ) (es : List Entry) (s : State K) 
 -- ---- what is promised of lists of calls, as far as it is needed here
 
 abbrev pub CallsFollow : {K : Type 0} → Kind K → Type 0
-CallsFollow {K} kind = (n t places : ℕ) (m : WireState) (proposals : List K) (s : State K) → IsWellFormed m → on_make n t m places proposals ≡ Ok s → (past_end : K) (calls : List Request)
-    → FollowsRule kind m.posted (state_after kind calls s) (log_after calls (answers_to kind calls s) (undrawn_log (first_history n t proposals past_end)))
+CallsFollow {K} kind =
+    (n t places : ℕ) (m : WireState) (proposals : List K) (s : State K) → IsWellFormed m → on_make n t m places proposals ≡ Ok s
+    → (past_end : K) (calls : List Request)
+    → let first = undrawn_log (first_history n t proposals past_end) in
+    FollowsRule kind m.posted (state_after kind calls s) (log_after calls (answers_to kind calls s) first)
 
 -- ---- rounds, by whether a box of the row rings
 

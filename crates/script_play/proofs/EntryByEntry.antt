@@ -161,7 +161,8 @@ module _ {K : Type 0} (kind : Kind K) (agree : (h : History K) → Agreement h k
         let few = few_fall s p proposals in
         by (cases_lt (count (λ q. is_some (g q)) s.n) (count (λ q. is_some (falls q)) s.n))
       where
-        by : (count (λ q. is_some (g q)) s.n < count (λ q. is_some (falls q)) s.n) ⊎ (count (λ q. is_some (falls q)) s.n ≤ count (λ q. is_some (g q)) s.n)
+        by : (count (λ q. is_some (g q)) s.n < count (λ q. is_some (falls q)) s.n)
+            ⊎ (count (λ q. is_some (falls q)) s.n ≤ count (λ q. is_some (g q)) s.n)
             → count (λ q. is_some (g q)) s.n < s.t
         by (inl l) = omega (arith, few_fall s p proposals)
         by (inr m) = absurd (
@@ -181,7 +182,9 @@ module _ {K : Type 0} (kind : Kind K) (agree : (h : History K) → Agreement h k
   module _ (unopened : ℕ → Option (List ℕ)) where
     -- the ringing with its row is that of a history, now and after any more calls
     abbrev pub Reached : State K → History K → Type 0
-    Reached x h = (more : List Request) → FollowsRule kind unopened (state_after kind more x) (log_after more (answers_to kind more x) (undrawn_log h))
+    Reached x h =
+        (more : List Request)
+        → FollowsRule kind unopened (state_after kind more x) (log_after more (answers_to kind more x) (undrawn_log h))
 
     pub now : (x : State K) (h : History K) → Reached x h → FollowsRule kind unopened x (undrawn_log h)
     unfolding state_after log_after
@@ -212,7 +215,8 @@ module _ {K : Type 0} (kind : Kind K) (agree : (h : History K) → Agreement h k
         (eqb e.round.0 (suc r)) refl
       where
         by : Fits s.n s.t e es → Walked r es x g
-            → (e.round.0 ≡ suc r → Reached (state_after_call kind (request.Fall e.number e.lost) x) (history (with_fall (suc r) e.number.0 e.lost g) r)
+            → (e.round.0 ≡ suc r
+            → Reached (state_after_call kind (request.Fall e.number e.lost) x) (history (with_fall (suc r) e.number.0 e.lost g) r)
             → Walked r es (state_after_call kind (request.Fall e.number e.lost) x) (with_fall (suc r) e.number.0 e.lost g))
             → (b : Bool) → eqb e.round.0 (suc r) ≡ b
             → (all_accepted kind (cond b (request.Fall e.number e.lost ∷ falls_before (suc r) es) (falls_before (suc r) es)) x ≡ true)

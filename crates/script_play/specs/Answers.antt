@@ -1,4 +1,4 @@
--- What is answered to the bytes of a script. Assumes nothing.
+-- What is answered to the bytes of a script. To be believed for scripts and reports.
 use Rattle.std.specs.Prelude.{ℕ, List, Ok, Err, Result}
 use Rattle.std.specs.Result.{result_map_both}
 use Rattle.base.specs.declared.refusal.Refusal.{Refusal}
@@ -17,7 +17,11 @@ text_or_refusal (Err e) = refusal_line e
 module _ {K : Type 0} (kind : Kind K) where
   -- the report of the boxes as they ring by the rule, or why the bytes are no script
   abbrev pub script_report : List ℕ → K → Result (List ℕ) Refusal
-  script_report bytes past_end = result_map_both (λ x. report_text kind (row_by kind (history_of x.0 x.1 past_end))) (λ e. e) (read_script kind most_company bytes)
+  script_report bytes past_end =
+      result_map_both
+      (λ x. report_text kind (row_by kind (history_of x.0 x.1 past_end)))
+      (λ e. e)
+      (read_script kind most_company bytes)
 
   -- what is answered
   abbrev pub answer_text : List ℕ → K → List ℕ

@@ -1,10 +1,10 @@
-// Playing a script: its company rings over a wire.
+//! Playing a script: its company rings over a wire, and what comes of it is written as a report.
 #![tactic(auto)]
 
 mod answer;
-mod run;
 mod laws;
+mod run;
 
 pub use answer::write_answer;
-pub use run::play;
 pub use laws::play_laws;
+pub use run::play;
