@@ -1,5 +1,4 @@
-// Shows the frame of pieces on standard input: its fields, one to a line, and the bytes that it is written as; or why it
-// is refused.
+//! Shows the frame of pieces on standard input: its fields, one to a line, and the bytes that it is written as; or why it is refused.
 #![tactic(auto)]
 
 use frames::{Frame, HexBytes, read_frame, write_frame};
@@ -7,12 +6,13 @@ use proposals::Piece;
 use std::io;
 use std::io::Read;
 
-// A frame of pieces is four numbers of at most five bytes each, so no byte behind the first 21 changes the answer.
+// More bytes than are read: a frame of pieces is four numbers of at most five bytes each, so none behind the first 21 changes the answer.
 const MOST_READ: u64 = 64;
 
-// A frame is written into bytes that are lent, since the library has no heap.
+// Room for the bytes of a frame of pieces: four numbers of at most five bytes each.
 const LONGEST: usize = 20;
 
+// Prints the frame, field by field, and its bytes.
 fn show(rt: &impl Print, frame: Frame<Piece>) -> io::Result<()> {
     let mut out = [0; LONGEST];
     match write_frame(frame, &mut out) {

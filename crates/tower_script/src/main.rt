@@ -1,12 +1,12 @@
-// Answers the script of pieces on standard input: the report of its ringing on a board, or the line of the refusal.
+//! Answers the script of pieces on standard input: the report of its ringing on a board, or the line of the refusal.
 #![tactic(auto)]
 
-use script_play::write_answer;
 use reports::LONGEST_REPORT;
+use script_play::write_answer;
 use std::io;
 use std::io::{Read, Write};
 
-// No script of pieces has as many bytes, so what stands behind changes no answer.
+// More bytes than any script of pieces has, so what stands behind them changes no answer.
 const MOST_READ: u64 = 4096;
 
 fn main(rt: HostRuntime) -> io::Result<()> {
