@@ -1,9 +1,21 @@
-// Tests of ringings: the same cases over a board and over a tape.
+// Tests of ringings, of their strike orders and of lists of calls. Each case runs over a board and over a tape.
 #![tactic(auto)]
 
 #[cfg(test)]
-mod fixtures;
+mod calls;
 #[cfg(test)]
-mod refusal_cases;
+mod cases;
 #[cfg(test)]
-mod ringing_cases;
+mod lists;
+#[cfg(test)]
+mod makes;
+#[cfg(test)]
+mod of_four;
+#[cfg(test)]
+mod orders;
+#[cfg(test)]
+mod rounds;
+#[cfg(test)]
+mod rows;
+#[cfg(test)]
+mod runs;
