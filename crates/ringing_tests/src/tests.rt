@@ -1,5 +1,9 @@
-// All cases, over a board and over a tape; and the words for what is told, which need no wire.
-use super::{calls, lists, makes, orders, rounds, rows, runs};
+// All cases, each over a board and over a tape; and the words for what is told, which need no wire.
+mod of_four;
+mod refusals;
+mod rounds;
+mod runs;
+
 use fixtures::NewWire;
 use machine::{Blow, Rung, Standing};
 use sets::RoundNumber;
@@ -8,20 +12,14 @@ use std::test::Fail;
 use wire::{Board, Tape};
 
 fn on_wire<W: NewWire>(rt: &impl Abort) -> Result<(), Fail> {
-    runs::of_two::<W>(rt)?;
-    runs::of_four::<W>(rt)?;
-    runs::of_all::<W>(rt)?;
-    makes::refused::<W>(rt)?;
-    makes::on_used_wires::<W>(rt)?;
-    rows::refused::<W>(rt)?;
-    rounds::lines::<W>(rt)?;
+    runs::rings_by_the_rule::<W>(rt)?;
+    rounds::line_bytes::<W>(rt)?;
     rounds::frames::<W>(rt)?;
-    rounds::frames_of_calls::<W>(rt)?;
-    calls::refused::<W>(rt)?;
-    orders::of_others::<W>(rt)?;
-    lists::refused::<W>(rt);
-    lists::on_other_orders::<W>(rt);
-    lists::on_row_of_another::<W>(rt);
+    refusals::of_calls::<W>(rt)?;
+    refusals::of_lists::<W>(rt);
+    refusals::of_makes::<W>(rt)?;
+    refusals::of_rows::<W>(rt)?;
+    refusals::of_reports::<W>(rt);
     Ok(())
 }
 
@@ -45,15 +43,14 @@ fn rung(blow: Blow) -> Standing<u32> {
 
 #[test]
 fn words(rt: HostRuntime) {
-    let table = [
+    for (standing, word) in [
         (Standing::Up, "up"),
-        (Standing::Down(RoundNumber(1)), "down"),
+        (Standing::Down(RoundNumber(3)), "down"),
         (rung(Blow::Undrawn), "rings"),
         (rung(Blow::Out), "out"),
         (rung(Blow::Struck), "struck"),
         (rung(Blow::Missed), "missed"),
-    ];
-    for (standing, word) in table {
+    ] {
         assert_eq!(rt; standing.word(), word);
     }
 }
