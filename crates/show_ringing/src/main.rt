@@ -2,12 +2,13 @@
 // does not hear it.
 #![tactic(auto)]
 
-use frames::LONGEST_FRAME;
-use proposals::Piece;
 use base::Refusal;
+use fixtures::{NewWire, proposals};
+use frames::LONGEST_FRAME;
+use machine::{Place, Standing, is_over};
+use proposals::Piece;
 use ringing::Ringing;
-use machine::{Place, Standing};
-use sets::{BoxNumber, BoxSet, RoundNumber};
+use sets::{BoxNumber, BoxSet};
 use std::io;
 use wire::{Board, Tape, Wire};
 
@@ -16,20 +17,8 @@ const N: u32 = 4;
 
 const T: u32 = 2;
 
-fn proposals() -> Result<[Piece; 4], Refusal> {
-    Ok([
-        Piece::new(30)?,
-        Piece::new(20)?,
-        Piece::new(10)?,
-        Piece::new(40)?,
-    ])
-}
-
-fn make<W: Wire + Drop>(wire: W, row: &mut [Place<Piece>]) -> Result<Ringing<W>, Refusal> {
-    match Ringing::make(N, T, wire, row, &proposals()?) {
-        Ok(ringing) => Ok(ringing),
-        Err((_, refusal)) => Err(refusal),
-    }
+fn make<W: NewWire>(row: &mut [Place<Piece>]) -> Result<Ringing<W>, Refusal> {
+    Ok(Ringing::make(N, T, W::new_wire(N)?, row, &proposals()?)?)
 }
 
 // A line of what is told of a box: its number, the word, and the round and the piece if there are any.
@@ -56,10 +45,6 @@ fn show_row<W: Wire>(
     Ok(())
 }
 
-fn rings(place: &Place<Piece>) -> bool {
-    place.standing().proposal().is_some()
-}
-
 // Round after round, up to the one in which the boxes ring.
 fn play_rounds<W: Wire>(
     rt: &impl Print,
@@ -73,17 +58,17 @@ fn play_rounds<W: Wire>(
             Ok(()) => show_row(rt, ringing, row)?,
             Err(refusal) => println!(rt; "refused {refusal}")?,
         }
-        if row.iter().any(rings) {
+        if is_over(row) {
             break;
         }
     }
     Ok(())
 }
 
-// The whole ringing over a wire.
-fn play<W: Wire + Drop>(rt: &impl Print, wire: W) -> io::Result<()> {
-    let mut row = [Place::<Piece>::Down(RoundNumber(0)); 4];
-    let mut ringing = match make(wire, &mut row) {
+// The whole ringing over a new wire.
+fn play<W: NewWire>(rt: &impl Print) -> io::Result<()> {
+    let mut row = [Place::default(); 4];
+    let mut ringing = match make::<W>(&mut row) {
         Ok(ringing) => ringing,
         Err(refusal) => return println!(rt; "refused {refusal}"),
     };
@@ -96,13 +81,7 @@ fn play<W: Wire + Drop>(rt: &impl Print, wire: W) -> io::Result<()> {
 
 fn main(rt: HostRuntime) -> io::Result<()> {
     println!(&rt; "board")?;
-    match Board::new(N) {
-        Ok(board) => play(&rt, board)?,
-        Err(refusal) => println!(&rt; "refused {refusal}")?,
-    }
+    play::<Board>(&rt)?;
     println!(&rt; "tape")?;
-    match Tape::new(N) {
-        Ok(tape) => play(&rt, tape),
-        Err(refusal) => println!(&rt; "refused {refusal}"),
-    }
+    play::<Tape>(&rt)
 }

@@ -2,10 +2,10 @@
 // until they ring.
 #![tactic(auto)]
 
+use base::Refusal;
 use boxes::{BoxFault, Closed, Listening, Resting};
 use frames::{HexBytes, LONGEST_FRAME};
 use proposals::Piece;
-use base::Refusal;
 use sets::BoxNumber;
 use std::io;
 
@@ -42,23 +42,27 @@ fn show_fault(rt: &impl Print, hearer: BoxNumber, fault: BoxFault) -> io::Result
 }
 
 // The sender composes its frame into bytes that are lent, and the hearer is told it.
-fn tell(rt: &impl Print, sender: Resting<Piece>, ear: &mut Listening<Piece>) -> io::Result<()> {
+fn tell(
+    rt: &impl Print,
+    sender: Resting<Piece>,
+    listening: &mut Listening<Piece>,
+) -> io::Result<()> {
     let mut line = [0; LONGEST_FRAME];
     let frame = match sender.compose(&mut line) {
         Ok(len) => &line[..len],
         Err(refusal) => return println!(rt; "refused {refusal}"),
     };
     println!(rt; "box {} sends{}", sender.number(), HexBytes(frame))?;
-    match ear.hear(frame) {
-        Ok(()) => println!(rt; "box {} hears box {}", ear.number(), sender.number()),
-        Err(fault) => show_fault(rt, ear.number(), fault),
+    match listening.hear(frame) {
+        Ok(()) => println!(rt; "box {} hears box {}", listening.number(), sender.number()),
+        Err(fault) => show_fault(rt, listening.number(), fault),
     }
 }
 
 // What is left of the box at rest, if it is.
-fn close(rt: &impl Print, ear: Listening<Piece>) -> io::Result<Option<Resting<Piece>>> {
-    let number = ear.number();
-    match ear.close() {
+fn close(rt: &impl Print, listening: Listening<Piece>) -> io::Result<Option<Resting<Piece>>> {
+    let number = listening.number();
+    match listening.close() {
         Ok(Closed::Rests(b)) => {
             show_box(rt, b)?;
             Ok(Some(b))
@@ -67,8 +71,8 @@ fn close(rt: &impl Print, ear: Listening<Piece>) -> io::Result<Option<Resting<Pi
             println!(rt; "box {number} rings in round {round} on piece {proposal}")?;
             Ok(None)
         }
-        Err((_, fault)) => {
-            show_fault(rt, number, fault)?;
+        Err(refused) => {
+            show_fault(rt, number, refused.fault)?;
             Ok(None)
         }
     }

@@ -2,10 +2,11 @@
 // and who rings. Box 2 loses power while it sends in round 1, and box 0 does not hear it.
 #![tactic(auto)]
 
-use boxes::{Closed, Listening, Resting};
+use base::Refusal;
+use boxes::{BoxFault, Closed, Listening, Resting};
+use fixtures::proposals;
 use frames::LONGEST_FRAME;
 use proposals::Piece;
-use base::Refusal;
 use rule::{Fall, closes, hears};
 use sets::{BoxNumber, BoxSet, RoundNumber};
 use std::io;
@@ -22,8 +23,8 @@ struct Seat {
     fall: Option<Fall>,
 }
 
-fn seat_of(number: u32, piece: u16, fall: Option<Fall>) -> Result<Seat, Refusal> {
-    let held = Resting::new(BoxNumber(number), N, T, Piece::new(piece)?)?;
+fn seat_of(number: u32, piece: Piece, fall: Option<Fall>) -> Result<Seat, Refusal> {
+    let held = Resting::new(BoxNumber(number), N, T, piece)?;
     Ok(Seat {
         held: Some(held),
         fall,
@@ -35,17 +36,18 @@ fn company() -> Result<[Seat; 4], Refusal> {
         round: RoundNumber(1),
         lost: BoxSet::only(BoxNumber(0)),
     };
+    let [first, second, third, fourth] = proposals()?;
     Ok([
-        seat_of(0, 30, None)?,
-        seat_of(1, 20, None)?,
-        seat_of(2, 10, Some(fall))?,
-        seat_of(3, 40, None)?,
+        seat_of(0, first, None)?,
+        seat_of(1, second, None)?,
+        seat_of(2, third, Some(fall))?,
+        seat_of(3, fourth, None)?,
     ])
 }
 
-// What a box hears in a round.
+// What a box has heard in a round.
 #[derive(Clone, Copy)]
-struct Ear {
+struct Heard {
     listening: Listening<Piece>,
     // The boxes that it has not heard, and those that it knows to be missing.
     missing: BoxSet,
@@ -53,17 +55,14 @@ struct Ear {
 }
 
 // The sender composes its frame, and the listener hears it.
-fn tell(ear: &mut Listening<Piece>, sender: Resting<Piece>) -> Result<(), Refusal> {
+fn tell(listening: &mut Listening<Piece>, sender: Resting<Piece>) -> Result<(), Refusal> {
     let mut line = [0; LONGEST_FRAME];
     let len = sender.compose(&mut line)?;
-    match ear.hear(&line[..len]) {
-        Ok(()) => Ok(()),
-        Err(fault) => Err(fault.refusal()),
-    }
+    listening.hear(&line[..len]).map_err(BoxFault::refusal)
 }
 
 // The box hears all that the rule lets it hear in the round.
-fn listen(hearer: Resting<Piece>, round: RoundNumber, seats: &[Seat; 4]) -> Result<Ear, Refusal> {
+fn listen(hearer: Resting<Piece>, round: RoundNumber, seats: &[Seat; 4]) -> Result<Heard, Refusal> {
     let mut listening = hearer.open();
     let mut missing = BoxSet::all_below(N).difference(BoxSet::only(hearer.number()));
     let mut known = hearer.missing();
@@ -78,7 +77,7 @@ fn listen(hearer: Resting<Piece>, round: RoundNumber, seats: &[Seat; 4]) -> Resu
             }
         }
     }
-    Ok(Ear {
+    Ok(Heard {
         listening,
         missing,
         known,
@@ -90,14 +89,23 @@ fn close(
     rt: &impl Print,
     hearer: Resting<Piece>,
     round: RoundNumber,
-    ear: Ear,
+    heard: Heard,
 ) -> io::Result<Option<Resting<Piece>>> {
-    let horizon = RoundNumber(round.0.saturating_add(T).saturating_sub(ear.known.count()));
-    let (estimate, missing, best, left) = match ear.listening.close() {
+    let horizon = RoundNumber(
+        round
+            .0
+            .saturating_add(T)
+            .saturating_sub(heard.known.count()),
+    );
+    let (estimate, missing, best, left) = match heard.listening.close() {
         Ok(Closed::Rests(b)) => (b.estimate(), b.missing(), b.horizon(), Some(b)),
-        Ok(Closed::Rings { round, proposal }) => (proposal, ear.missing, round, None),
-        Err((_, fault)) => {
-            println!(rt; "box {} refused {}", hearer.number(), fault.refusal())?;
+        Ok(Closed::Rings { round, proposal }) => (proposal, heard.missing, round, None),
+        Err(refused) => {
+            println!(rt;
+                "box {} refused {}",
+                hearer.number(),
+                refused.fault.refusal()
+            )?;
             return Ok(None);
         }
     };
@@ -113,7 +121,7 @@ fn close(
 fn next(rt: &impl Print, seat: Seat, round: RoundNumber, seats: &[Seat; 4]) -> io::Result<Seat> {
     let held = match seat.held {
         Some(hearer) if closes(seat.fall, round) => match listen(hearer, round, seats) {
-            Ok(ear) => close(rt, hearer, round, ear)?,
+            Ok(heard) => close(rt, hearer, round, heard)?,
             Err(refusal) => {
                 println!(rt; "box {} refused {refusal}", hearer.number())?;
                 None

@@ -6,14 +6,13 @@ ghost use Rattle.std.specs.Prelude.{◌≡◌};
 ghost use Rattle.ringing.specs.RingingStates.{state_of};
 ghost use Rattle.show_strikes.specs.Returned.{IsTakenBack, orders_returned, AreReady};
 
-use frames::LONGEST_FRAME;
-use proposals::Piece;
 use base::Refusal;
 use call_lists::make_calls;
-use ringing::{Ringing, StrikeOrder};
+use fixtures::{NARROW, NewWire, ROUND, ask, draw, fall, missed, proposals, struck};
 use machine::{Place, Standing};
 use promise::{Reply, Request};
-use sets::{BoxNumber, BoxSet, RoundNumber};
+use proposals::Piece;
+use ringing::{Ringing, StrikeOrder};
 use std::io;
 use wire::{Board, Tape, Wire};
 
@@ -29,55 +28,22 @@ const STEP: usize = 1 + N as usize;
 
 const LENGTH: usize = STEP * CALLS;
 
-fn proposals() -> Result<[Piece; 4], Refusal> {
-    Ok([
-        Piece::new(30)?,
-        Piece::new(20)?,
-        Piece::new(10)?,
-        Piece::new(40)?,
-    ])
-}
-
-// With numbers in place of box numbers and round numbers.
-fn ask(p: u32) -> Request {
-    Request::Ask(BoxNumber(p))
-}
-
-fn fall(q: u32, lost: u32) -> Request {
-    Request::Fall(BoxNumber(q), BoxSet::only(BoxNumber(lost)))
-}
-
-fn draw(p: u32) -> Request {
-    Request::Draw(BoxNumber(p))
-}
-
-fn struck(p: u32, round: u32) -> Request {
-    Request::Struck(BoxNumber(p), RoundNumber(round))
-}
-
-fn missed(p: u32, round: u32) -> Request {
-    Request::Missed(BoxNumber(p), RoundNumber(round))
-}
-
-// A round with just enough line bytes.
-const ROUND: Request = Request::Round(LONGEST_FRAME);
-
 fn calls() -> [Request; CALLS] {
     [
         ask(1),
         ask(9),
         draw(0),
-        fall(2, 0),
-        fall(3, 4),
-        fall(2, 1),
-        Request::Round(LONGEST_FRAME - 1),
+        fall(2, 0b00001),
+        fall(3, 0b10000),
+        fall(2, 0b00010),
+        NARROW,
         ROUND,
         ask(2),
         ROUND,
         draw(1),
         ROUND,
         ROUND,
-        fall(1, 0),
+        fall(1, 0b00001),
         draw(0),
         draw(1),
         draw(3),
@@ -202,10 +168,10 @@ fn give_all_back<W: Wire>(
 
 // All calls over a wire.
 fn play<W: Wire + Drop>(rt: &impl Print, wire: W, proposals: &[Piece; 4]) -> io::Result<()> {
-    let mut row = [Place::<Piece>::Down(RoundNumber(0)); 4];
+    let mut row = [Place::default(); 4];
     let mut ringing = match Ringing::make(N, T, wire, &mut row, proposals) {
         Ok(ringing) => ringing,
-        Err((_, refusal)) => return println!(rt; "refused {refusal}"),
+        Err(refused) => return println!(rt; "refused {}", refused.fault),
     };
     let mut orders: [Option<StrikeOrder>; 4] = [None, None, None, None];
     let list = list();
@@ -218,18 +184,19 @@ fn play<W: Wire + Drop>(rt: &impl Print, wire: W, proposals: &[Piece; 4]) -> io:
     }
 }
 
-// On both wires.
-fn play_both(rt: &impl Print, proposals: &[Piece; 4]) -> io::Result<()> {
-    println!(rt; "board")?;
-    match Board::new(N) {
-        Ok(board) => play(rt, board, proposals)?,
-        Err(refusal) => println!(rt; "refused {refusal}")?,
-    }
-    println!(rt; "tape")?;
-    match Tape::new(N) {
-        Ok(tape) => play(rt, tape, proposals),
+// Over a new wire.
+fn play_on<W: NewWire>(rt: &impl Print, proposals: &[Piece; 4]) -> io::Result<()> {
+    match W::new_wire(N) {
+        Ok(wire) => play(rt, wire, proposals),
         Err(refusal) => println!(rt; "refused {refusal}"),
     }
+}
+
+fn play_both(rt: &impl Print, proposals: &[Piece; 4]) -> io::Result<()> {
+    println!(rt; "board")?;
+    play_on::<Board>(rt, proposals)?;
+    println!(rt; "tape")?;
+    play_on::<Tape>(rt, proposals)
 }
 
 fn main(rt: HostRuntime) -> io::Result<()> {

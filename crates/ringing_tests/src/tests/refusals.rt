@@ -323,12 +323,13 @@ pub(crate) fn of_reports<W: NewWire>(rt: &impl Abort) {
     for order in &mut whole.orders[1..] {
         order_refused(rt, &four.ringing, four.row, order, Refusal::Order);
     }
+    let (here, there) = (four.row, sooner.row);
     let early = &mut sooner.orders[0];
-    order_refused(rt, &four.ringing, four.row, early, Refusal::Order);
-    order_refused(rt, &four.ringing, sooner.row, early, Refusal::Row);
+    order_refused(rt, &four.ringing, here, early, Refusal::Order);
+    order_refused(rt, &four.ringing, there, early, Refusal::Row);
     let own = &mut four.orders[0];
-    order_refused(rt, &sooner.ringing, sooner.row, own, Refusal::Order);
-    order_refused(rt, &sooner.ringing, four.row, own, Refusal::Row);
+    order_refused(rt, &sooner.ringing, there, own, Refusal::Order);
+    order_refused(rt, &sooner.ringing, here, own, Refusal::Row);
     // Orders tell box and round alone: two ringings in which equal ones are out take each other's back, and none a second.
     mem::swap(&mut four.orders[0], &mut whole.orders[0]);
     four.answers(rt, &[(struck(0, 3), DONE)]);
