@@ -1,10 +1,8 @@
-// Kinds of proposal as code above sees them: generic functions, proved once from the laws alone, and a third kind that is
-// declared outside the crate of the trait.
+//! A third kind of proposal, declared outside the crate of the trait: a check that the trait is enough for code outside. Nothing of the product rests
+//! on it.
 #![tactic(auto)]
 
-mod generic;
-mod vote;
-mod votes;
+mod medleys;
+mod values;
 
-pub use generic::{echo, leader};
-pub use vote::Vote;
+pub use values::Medley;
