@@ -1,181 +1,135 @@
-// Frames, read and written.
-// What is written goes into arrays that are lent, since the library has no heap, and the byte behind is looked at.
-use frames::{Field, Frame, HexBytes, read_frame, write_frame};
-use proposals::{Call, Proposal, Piece};
+// Frames, read and written. Bytes are written into bytes that were 0xaa, and those behind are looked at.
 use base::Refusal;
-use numbers::read_number;
+use frames::{Field, Frame, FrameFault, HexBytes, read_frame, write_frame};
+use proposal_check::Medley;
+use proposals::{Call, Piece, Proposal};
 use sets::{BoxNumber, BoxSet, RoundNumber};
 use std::fmt::Debug;
 use std::process::Abort;
 use std::test::Fail;
 
-// The bytes hold the frame: they read as it, and it is written as them, with the byte behind left as it was.
+// The bytes read as the frame, and it is written as them. There is no room for it in one byte less.
 fn holds<K: Proposal + PartialEq + Debug>(
     rt: &impl Abort,
     bytes: &[u8],
-    frame: Frame<K>,
-) -> Result<(), Fail> {
-    let found = read_frame::<K>(bytes)?;
-    assert_eq!(rt; found, frame);
-    // A proposal may go first of itself.
-    assert!(rt;
-        found.estimate.may_go_first(frame.estimate) && frame.estimate.may_go_first(found.estimate)
-    );
+    round: u32,
+    sender: u32,
+    missing: u32,
+    estimate: K,
+) {
+    let frame = Frame {
+        round: RoundNumber(round),
+        sender: BoxNumber(sender),
+        missing: BoxSet::from_mask(missing),
+        estimate,
+    };
+    assert_eq!(rt; read_frame::<K>(bytes), Ok(frame));
     let mut out = [0xaa; 32];
-    let len = write_frame(frame, &mut out)?;
-    assert!(rt; len == bytes.len() && len < out.len());
-    assert!(rt; &out[..len] == bytes && out[len] == 0xaa);
-    Ok(())
-}
-
-fn refuses<K: Proposal>(
-    rt: &impl Abort,
-    bytes: &[u8],
-    refusal: Refusal,
-    field: Field,
-    place: usize,
-) -> Result<(), Fail> {
-    let fault = read_frame::<K>(bytes).err().ok_or("it was read")?;
-    assert_eq!(rt; fault.refusal(), refusal);
-    assert_eq!(rt; fault.field(), field);
-    assert_eq!(rt; fault.place(), place);
-    Ok(())
+    let len = bytes.len();
+    assert!(rt; 0 < len && len < out.len());
+    assert_eq!(rt;
+        write_frame(frame, &mut out[..len - 1]),
+        Err(Refusal::Narrow)
+    );
+    assert!(rt; out == [0xaa; 32]);
+    assert_eq!(rt; write_frame(frame, &mut out), Ok(len));
+    assert!(rt; out.starts_with(bytes) && out[len..].iter().all(|byte| *byte == 0xaa));
 }
 
 #[test]
-fn frames_of_both_kinds(rt: HostRuntime) -> Result<(), Fail> {
+fn frames_of_each_kind(rt: HostRuntime) -> Result<(), Fail> {
     let piece = Piece::new(20)?;
-    let round = RoundNumber(2);
-    let sender = BoxNumber(0);
-    let missing = BoxSet::empty().with(BoxNumber(2));
-    holds(
-        &rt,
-        b"\x02\x00\x04\x14",
-        Frame {
-            round,
-            sender,
-            missing,
-            estimate: piece,
-        },
-    )?;
+    holds(&rt, b"\x02\x00\x04\x14", 2, 0, 0b100, piece);
     let call = Call::new(9, piece)?;
-    holds(
-        &rt,
-        b"\x02\x00\x04\x09\x14",
-        Frame {
-            round,
-            sender,
-            missing,
-            estimate: call,
-        },
-    )
+    holds(&rt, b"\x02\x00\x04\x09\x14", 2, 0, 0b100, call);
+    let medley = Medley::new([0, 127, 128, 16384])?;
+    let bytes = b"\x02\x00\x04\x00\x7f\x81\x00\x81\x80\x00";
+    holds(&rt, bytes, 2, 0, 0b100, medley);
+    Ok(())
 }
 
+// The longest frames that there are of pieces and of calls; and of four numbers the longest in a company, 23 bytes.
 #[test]
 fn longest_frames(rt: HostRuntime) -> Result<(), Fail> {
+    let most = u32::MAX;
     let piece = Piece::new(16383)?;
+    let bytes = b"\x8f\xff\xff\xff\x7f\x8f\xff\xff\xff\x7f\x8f\xff\xff\xff\x7f\xff\x7f";
+    holds(&rt, bytes, most, most, most, piece);
     let call = Call::new(1, piece)?;
-    let round = RoundNumber(u32::MAX);
-    let sender = BoxNumber(u32::MAX);
-    let missing = BoxSet::all_below(32);
-    let short = Frame {
-        round,
-        sender,
-        missing,
-        estimate: piece,
-    };
-    holds(
-        &rt,
-        b"\x8f\xff\xff\xff\x7f\x8f\xff\xff\xff\x7f\x8f\xff\xff\xff\x7f\xff\x7f",
-        short,
-    )?;
-    let frame = Frame {
-        round,
-        sender,
-        missing,
-        estimate: call,
-    };
-    holds(
-        &rt,
-        b"\x8f\xff\xff\xff\x7f\x8f\xff\xff\xff\x7f\x8f\xff\xff\xff\x7f\x01\xff\x7f",
-        frame,
-    )?;
-    let mut out = [0xaa; 17];
-    assert_eq!(rt; write_frame(frame, &mut out), Err(Refusal::Narrow));
-    assert!(rt; out == [0xaa; 17]);
+    let bytes = b"\x8f\xff\xff\xff\x7f\x8f\xff\xff\xff\x7f\x8f\xff\xff\xff\x7f\x01\xff\x7f";
+    holds(&rt, bytes, most, most, most, call);
+    let medley = Medley::new([268435455; 4])?;
+    let bytes =
+        b"\x20\x1f\x87\xff\xff\xff\x7f\xff\xff\xff\x7f\xff\xff\xff\x7f\xff\xff\xff\x7f\xff\xff\xff\x7f";
+    holds(&rt, bytes, 32, 31, most >> 1, medley);
     Ok(())
 }
 
-#[test]
-fn faults_of_numbers(rt: HostRuntime) -> Result<(), Fail> {
-    refuses::<Piece>(&rt, b"", Refusal::Short, Field::Round, 0)?;
-    refuses::<Piece>(&rt, b"\x80\x00", Refusal::Padded, Field::Round, 0)?;
-    refuses::<Piece>(
-        &rt,
-        b"\x02\x90\x80\x80\x80\x00",
-        Refusal::Wide,
-        Field::Sender,
-        1,
-    )?;
-    refuses::<Piece>(&rt, b"\x81\x00\x00\x84", Refusal::Short, Field::Set, 3)?;
-    refuses::<Call>(
-        &rt,
-        b"\x02\x00\x04\x09\x80\x14",
-        Refusal::Padded,
-        Field::Image,
-        4,
-    )
+// What the bytes are refused for, in which field and at which place.
+fn refused<K: Proposal>(bytes: &[u8]) -> Option<(Refusal, Field, usize)> {
+    let fault = read_frame::<K>(bytes).err()?;
+    Some((fault.refusal(), fault.field(), fault.place()))
 }
 
 #[test]
-fn faults_of_frames(rt: HostRuntime) -> Result<(), Fail> {
-    refuses::<Piece>(
-        &rt,
-        b"\x02\x00\x04\x81\x80\x00",
-        Refusal::Image,
-        Field::Image,
-        3,
-    )?;
-    refuses::<Call>(
-        &rt,
-        b"\x02\x00\x04\x0a\x14",
-        Refusal::Image,
-        Field::Image,
-        3,
-    )?;
-    refuses::<Call>(
-        &rt,
-        b"\x02\x00\x04\x00\x14",
-        Refusal::Image,
-        Field::Image,
-        3,
-    )?;
-    // The image before what follows it.
-    refuses::<Call>(
-        &rt,
-        b"\x02\x00\x04\x00\x14\x00",
-        Refusal::Image,
-        Field::Image,
-        3,
-    )?;
-    refuses::<Piece>(
-        &rt,
-        b"\x02\x00\x04\x14\x00",
-        Refusal::Surplus,
-        Field::End,
-        4,
-    )?;
-    refuses::<Call>(
-        &rt,
-        b"\x02\x00\x04\x09\x14\x80\x00",
-        Refusal::Surplus,
-        Field::End,
-        5,
-    )
+fn frames_refused(rt: HostRuntime) {
+    let pieces: [(&[u8], Refusal, Field, usize); 6] = [
+        (b"", Refusal::Short, Field::Round, 0),
+        (b"\x80\x00", Refusal::Padded, Field::Round, 0),
+        (b"\x02\x90\x80\x80\x80\x00", Refusal::Wide, Field::Sender, 1),
+        (b"\x81\x00\x00\x84", Refusal::Short, Field::Set, 3),
+        (b"\x02\x00\x04\x81\x80\x00", Refusal::Image, Field::Image, 3),
+        (b"\x02\x00\x04\x14\x00", Refusal::Surplus, Field::End, 4),
+    ];
+    for (bytes, refusal, field, place) in pieces {
+        assert_eq!(rt; refused::<Piece>(bytes), Some((refusal, field, place)));
+    }
+    let calls: [(&[u8], Refusal, Field, usize); 5] = [
+        (
+            b"\x02\x00\x04\x09\x80\x14",
+            Refusal::Padded,
+            Field::Image,
+            4,
+        ),
+        (b"\x02\x00\x04\x0a\x14", Refusal::Image, Field::Image, 3),
+        (b"\x02\x00\x04\x00\x14", Refusal::Image, Field::Image, 3),
+        // The image before what follows it.
+        (b"\x02\x00\x04\x00\x14\x00", Refusal::Image, Field::Image, 3),
+        (
+            b"\x02\x00\x04\x09\x14\x80\x00",
+            Refusal::Surplus,
+            Field::End,
+            5,
+        ),
+    ];
+    for (bytes, refusal, field, place) in calls {
+        assert_eq!(rt; refused::<Call>(bytes), Some((refusal, field, place)));
+    }
+    let medleys: [(&[u8], Refusal, Field, usize); 3] = [
+        // 268,435,456 is no number of an image.
+        (
+            b"\x01\x00\x00\x00\x00\x00\x81\x80\x80\x80\x00",
+            Refusal::Image,
+            Field::Image,
+            3,
+        ),
+        (b"\x01\x00\x00\x00\x00\x00", Refusal::Short, Field::Image, 6),
+        (
+            b"\x01\x00\x00\x00\x00\x00\x00\x00",
+            Refusal::Surplus,
+            Field::End,
+            7,
+        ),
+    ];
+    for (bytes, refusal, field, place) in medleys {
+        assert_eq!(rt; refused::<Medley>(bytes), Some((refusal, field, place)));
+    }
+    let above = Medley::new([0, 268435456, 0, 0]);
+    assert_eq!(rt; above, Err(Refusal::Image));
 }
 
 #[test]
-fn fields_have_words(rt: HostRuntime) {
+fn texts(rt: HostRuntime) -> Result<(), Fail> {
     let cases: [(Field, &str); 5] = [
         (Field::Round, "round"),
         (Field::Sender, "sender"),
@@ -186,30 +140,15 @@ fn fields_have_words(rt: HostRuntime) {
     for (field, word) in cases {
         assert!(rt; field.word() == word);
     }
-}
-
-#[test]
-fn numbers_boxes_rounds_and_pieces_as_text(rt: HostRuntime) -> Result<(), Fail> {
-    let fault = read_number(b"\x05\x80", 1).err().ok_or("it was read")?;
-    assert!(rt; format!(in rt.alloc(); "{fault}")?.as_str() == "3 padded 1");
+    let place = 4;
     let shown = format!(in rt.alloc();
-        "{} {} {}",
+        "{} {} {}, {}, bytes{}",
         BoxNumber(31),
         RoundNumber(10),
-        Piece::new(16383)?
+        Piece::new(16383)?,
+        FrameFault::Image { place },
+        HexBytes(b"\x02\xff")
     )?;
-    assert!(rt; shown.as_str() == "31 10 16383");
-    Ok(())
-}
-
-#[test]
-fn faults_and_bytes_as_text(rt: HostRuntime) -> Result<(), Fail> {
-    let fault = read_frame::<Call>(b"\x02\x00\x04\x09\x80\x14")
-        .err()
-        .ok_or("it was read")?;
-    assert!(rt; format!(in rt.alloc(); "{fault}")?.as_str() == "3 padded image 4");
-    assert!(rt;
-        format!(in rt.alloc(); "bytes{}", HexBytes(b"\x02\xff"))?.as_str() == "bytes 02 ff"
-    );
+    assert!(rt; shown.as_str() == "31 10 16383, 9 image image 4, bytes 02 ff");
     Ok(())
 }

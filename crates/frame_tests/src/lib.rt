@@ -1,4 +1,4 @@
-// Tests of numbers and frames on worked examples, in bytes.
+//! Tests of numbers and frames on worked examples, in bytes.
 #![tactic(auto)]
 
 #[cfg(test)]

@@ -1,4 +1,4 @@
-// Tests of wires: the same cases on a board and on a tape.
+//! Tests of wires: calls with what they answer, the same on each wire.
 #![tactic(auto)]
 
 #[cfg(test)]
