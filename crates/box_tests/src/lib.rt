@@ -1,4 +1,4 @@
-// Tests of boxes: each refusal that a box can give, and rounds closed by hand.
+//! Tests of boxes: each refusal that a box can give, and rounds closed by hand.
 #![tactic(auto)]
 
 #[cfg(test)]

@@ -1,4 +1,8 @@
 // Numbers, read and written, and refusals: the tables of docs/FORMATS.md. Bytes are written into bytes that were 0xaa, and those behind are looked at.
+use Refusal::{
+    Company, Down, Entry, Heard, Image, Narrow, OffBeat, Order, Over, Padded, Posted, Row, Set,
+    Short, Silent, Spent, Stranger, Surplus, Tally, Wide, Wire,
+};
 use base::Refusal;
 use numbers::{Decoded, NumberFault, read_number, write_number};
 use std::test::Fail;
@@ -31,20 +35,20 @@ fn numbers(rt: HostRuntime) -> Result<(), Fail> {
 #[test]
 fn numbers_refused(rt: HostRuntime) -> Result<(), Fail> {
     let cases: [(&[u8], usize, Refusal); 11] = [
-        (b"", 0, Refusal::Short),
-        (b"\x81", 0, Refusal::Short),
-        (b"\x05", 1, Refusal::Short),
-        (b"\x05", 7, Refusal::Short),
+        (b"", 0, Short),
+        (b"\x81", 0, Short),
+        (b"\x05", 1, Short),
+        (b"\x05", 7, Short),
         // Four groups go on, and no more bytes.
-        (b"\x81\x81\x81\x81", 0, Refusal::Short),
+        (b"\x81\x81\x81\x81", 0, Short),
         // The fifth goes on: too wide, before the end is seen.
-        (b"\x81\x81\x81\x81\x81", 0, Refusal::Wide),
-        (b"\x90\x80\x80\x80\x00", 0, Refusal::Wide),
-        (b"\x80\x05", 0, Refusal::Padded),
+        (b"\x81\x81\x81\x81\x81", 0, Wide),
+        (b"\x90\x80\x80\x80\x00", 0, Wide),
+        (b"\x80\x05", 0, Padded),
         // Padded before short, and before wide.
-        (b"\x80", 0, Refusal::Padded),
-        (b"\x80\x80\x80\x80\x80\x80", 0, Refusal::Padded),
-        (b"\x05\x80\x05", 1, Refusal::Padded),
+        (b"\x80", 0, Padded),
+        (b"\x80\x80\x80\x80\x80\x80", 0, Padded),
+        (b"\x05\x80\x05", 1, Padded),
     ];
     for (bytes, place, refusal) in cases {
         let fault = NumberFault { refusal, place };
@@ -55,32 +59,19 @@ fn numbers_refused(rt: HostRuntime) -> Result<(), Fail> {
     Ok(())
 }
 
+// Each by its number, from 1 on.
 #[test]
 fn refusals(rt: HostRuntime) {
-    let cases: [(Refusal, u8, &str); 21] = [
-        (Refusal::Short, 1, "short"),
-        (Refusal::Wide, 2, "wide"),
-        (Refusal::Padded, 3, "padded"),
-        (Refusal::Surplus, 4, "surplus"),
-        (Refusal::Stranger, 5, "stranger"),
-        (Refusal::OffBeat, 6, "off beat"),
-        (Refusal::Heard, 7, "heard"),
-        (Refusal::Set, 8, "set"),
-        (Refusal::Image, 9, "image"),
-        (Refusal::Tally, 10, "tally"),
-        (Refusal::Company, 11, "company"),
-        (Refusal::Row, 12, "row"),
-        (Refusal::Wire, 13, "wire"),
-        (Refusal::Down, 14, "down"),
-        (Refusal::Spent, 15, "spent"),
-        (Refusal::Over, 16, "over"),
-        (Refusal::Silent, 17, "silent"),
-        (Refusal::Order, 18, "order"),
-        (Refusal::Narrow, 19, "narrow"),
-        (Refusal::Posted, 20, "posted"),
-        (Refusal::Entry, 21, "entry"),
+    let cases = [
+        Short, Wide, Padded, Surplus, Stranger, OffBeat, Heard, Set, Image, Tally, Company, Row,
+        Wire, Down, Spent, Over, Silent, Order, Narrow, Posted, Entry,
     ];
-    for (refusal, number, word) in cases {
+    let words = [
+        "short", "wide", "padded", "surplus", "stranger", "off beat", "heard", "set", "image",
+        "tally", "company", "row", "wire", "down", "spent", "over", "silent", "order", "narrow",
+        "posted", "entry",
+    ];
+    for (number, (refusal, word)) in (1..).zip(cases.iter().zip(words)) {
         assert_eq!(rt; refusal.number(), number);
         assert!(rt; refusal.word() == word);
     }

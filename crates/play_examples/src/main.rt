@@ -1,9 +1,9 @@
-// Plays each example, a file NAME.script in the folder that is named, or in the one that the program runs in, and tells whether the answer is what
-// NAME.report holds.
+//! Plays each example, a file NAME.script in the folder that is named, or in the one that the program runs in, and tells whether the answer is what
+//! NAME.report holds.
 #![tactic(auto)]
 
-use script_play::write_answer;
 use reports::LONGEST_REPORT;
+use script_play::write_answer;
 use std::{env, fs, io};
 
 // The names of the examples in a folder, in order.

@@ -1,13 +1,5 @@
-// Tests of scripts: what is answered to their bytes, how they are read and played, and the reports.
+//! Tests of scripts: how their bytes are read and answered, how they are played, and the reports.
 #![tactic(auto)]
 
 #[cfg(test)]
-mod answer_cases;
-#[cfg(test)]
-mod fixtures;
-#[cfg(test)]
-mod play_cases;
-#[cfg(test)]
-mod read_cases;
-#[cfg(test)]
-mod report_cases;
+mod script_cases;

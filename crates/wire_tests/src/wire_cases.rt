@@ -1,4 +1,4 @@
-// Rounds as tables of calls, each made on every wire. The sets are written as masks.
+// Rounds as tables of calls, each made on every wire. Sets are written as masks.
 use base::Refusal;
 use frames::LONGEST_FRAME;
 use sets::{BoxNumber, BoxSet};
@@ -15,17 +15,13 @@ enum Step<'a> {
     Fall(u32, u32, Result<(), Refusal>),
     // A box posts these bytes.
     Post(u32, &'a [u8], Result<(), Refusal>),
-    // A box hears of another these bytes, or nothing.
-    Hear(u32, u32, Option<&'a [u8]>),
-    // A box fetches from another into so much room, and is refused.
-    Refuse(u32, u32, usize, Refusal),
+    // A box fetches from another, into so much room.
+    Fetch(u32, u32, usize, Result<Option<&'a [u8]>, Refusal>),
     // The sets of the boxes that are up, that are falling and that have posted.
     Told(u32, u32, u32),
 }
 
-use Step::{Close, Fall, Hear, Open, Post, Refuse, Told};
-
-const OLD: [u8; LONGEST_FRAME + 1] = [0xaa; LONGEST_FRAME + 1];
+use Step::{Close, Fall, Fetch, Open, Post, Told};
 
 fn told<W: Wire>(wire: &W) -> (u32, u32, u32) {
     (
@@ -35,23 +31,27 @@ fn told<W: Wire>(wire: &W) -> (u32, u32, u32) {
     )
 }
 
-// What is fetched stands in front, in room for just that and in more, and the bytes behind stay.
-fn hears<W: Wire>(wire: &W, p: u32, q: u32, frame: Option<&[u8]>) -> bool {
-    let bytes = frame.unwrap_or(&[]);
-    let len = bytes.len();
-    let (mut just, mut more) = (OLD, OLD);
-    len < OLD.len()
-        && wire.fetch(BoxNumber(p), BoxNumber(q), &mut just[..len]) == Ok(frame.map(|_| len))
-        && wire.fetch(BoxNumber(p), BoxNumber(q), &mut more) == Ok(frame.map(|_| len))
-        && more.starts_with(bytes)
-        && more[len..] == OLD[len..]
-        && just == more
+// What is fetched stands in front, and the bytes behind stay.
+fn fetches<W: Wire>(
+    wire: &W,
+    p: u32,
+    q: u32,
+    room: usize,
+    wanted: Result<Option<&[u8]>, Refusal>,
+) -> bool {
+    let old = [0xaa; LONGEST_FRAME + 1];
+    let mut out = old;
+    let frame = wanted.ok().flatten().unwrap_or(&[]);
+    room <= out.len()
+        && wire.fetch(BoxNumber(p), BoxNumber(q), &mut out[..room])
+            == wanted.map(|heard| heard.map(<[u8]>::len))
+        && out.starts_with(frame)
+        && out.iter().skip(frame.len()).all(|byte| *byte == 0xaa)
 }
 
-// Whether the step goes as is wanted, and a refused call changes nothing that is told or lent.
+// Whether the step goes as is wanted, and a refused call changes nothing that is told.
 fn goes<W: Wire>(wire: &mut W, step: Step<'_>) -> bool {
     let before = told(wire);
-    let mut out = OLD;
     match step {
         Open => wire.open(),
         Close => wire.close(),
@@ -63,12 +63,7 @@ fn goes<W: Wire>(wire: &mut W, step: Step<'_>) -> bool {
             let answer = wire.post(BoxNumber(q), frame);
             return answer == wanted && (wanted.is_ok() || told(wire) == before);
         }
-        Hear(p, q, frame) => return hears(wire, p, q, frame),
-        Refuse(p, q, room, refusal) => {
-            return room < OLD.len()
-                && wire.fetch(BoxNumber(p), BoxNumber(q), &mut out[..room]) == Err(refusal)
-                && out == OLD;
-        }
+        Fetch(p, q, room, wanted) => return fetches(wire, p, q, room, wanted),
         Told(up, falling, posted) => return before == (up, falling, posted),
     }
     true
@@ -91,7 +86,7 @@ fn on_each(rt: &impl Abort, n: u32, steps: &[Step<'_>]) -> Result<(), Refusal> {
 #[test]
 fn new_wires(rt: HostRuntime) -> Result<(), Fail> {
     for (n, up) in [(2, 0b11), (4, 0b1111), (32, u32::MAX)] {
-        on_each(&rt, n, &[Told(up, 0, 0), Hear(0, 1, None)])?;
+        on_each(&rt, n, &[Told(up, 0, 0), Fetch(0, 1, 0, Ok(None))])?;
     }
     for n in [0, 1, 33] {
         assert_eq!(rt; Board::new(n).err(), Some(Refusal::Company));
@@ -100,91 +95,66 @@ fn new_wires(rt: HostRuntime) -> Result<(), Fail> {
     Ok(())
 }
 
-// Each refusal of each call, and of two that apply the first.
+// Each refusal of each call, and of two that apply the first; and rounds in which boxes fall.
 #[test]
-fn refusals(rt: HostRuntime) -> Result<(), Fail> {
+fn rounds_of_four(rt: HostRuntime) -> Result<(), Fail> {
     let steps = [
         Fall(4, 0b10000, Err(Refusal::Stranger)),
         Fall(1, 0b10000, Err(Refusal::Set)),
         Fall(1, 0b00010, Err(Refusal::Set)),
-        Fall(1, 0b0101, Ok(())),
-        Fall(1, 0b10000, Err(Refusal::Set)),
-        Fall(1, 0b1000, Err(Refusal::Down)),
-        // A box that is falling still posts, and its lost set is that of the first call.
-        Post(1, b"\x09", Ok(())),
-        Hear(0, 1, None),
-        Hear(3, 1, Some(b"\x09")),
-        Close,
-        Post(1, b"\x09", Err(Refusal::Down)),
-        // After the close what stands posted stays, and a box that has not may still post.
-        Hear(0, 1, Some(b"\x09")),
-        Post(0, b"\x0a", Ok(())),
-        Told(0b1101, 0, 0b0011),
-        Open,
-        Told(0b1101, 0, 0),
-        Fall(1, 0, Err(Refusal::Down)),
-        Post(4, b"", Err(Refusal::Stranger)),
-        Post(1, b"", Err(Refusal::Down)),
-        Post(2, b"", Err(Refusal::Narrow)),
-        Post(2, &[7; LONGEST_FRAME + 1], Err(Refusal::Narrow)),
-        Post(2, b"\x01\x02\x03", Ok(())),
-        Post(2, b"", Err(Refusal::Posted)),
-        Post(2, b"\x04", Err(Refusal::Posted)),
-        Told(0b1101, 0, 0b0100),
-        Refuse(4, 2, 24, Refusal::Stranger),
-        Refuse(0, 4, 24, Refusal::Stranger),
-        Refuse(4, 2, 0, Refusal::Stranger),
-        Refuse(0, 2, 2, Refusal::Narrow),
-        Refuse(0, 2, 0, Refusal::Narrow),
-        Hear(0, 2, Some(b"\x01\x02\x03")),
-        // A box that is down is told what it would hear.
-        Hear(1, 2, Some(b"\x01\x02\x03")),
-        Hear(2, 0, None),
-    ];
-    on_each(&rt, 4, &steps)?;
-    Ok(())
-}
-
-// A box that falls is heard by some and not by others, and is down then; what it posted stays until a round opens.
-#[test]
-fn falling(rt: HostRuntime) -> Result<(), Fail> {
-    let steps = [
-        Open,
         Fall(1, 0b1001, Ok(())),
+        Fall(1, 0b10000, Err(Refusal::Set)),
+        Fall(1, 0b0001, Err(Refusal::Down)),
+        // A box that is falling goes on falling, and still posts.
+        Open,
         Told(0b1111, 0b0010, 0),
-        Post(3, b"\x01\x03\x00\x28", Ok(())),
         Post(1, b"\x01\x01\x00\x81\x48", Ok(())),
-        Post(0, b"\x01\x00\x00\x1e", Ok(())),
-        Told(0b1111, 0b0010, 0b1011),
-        Hear(2, 1, Some(b"\x01\x01\x00\x81\x48")),
+        Post(4, b"", Err(Refusal::Stranger)),
+        Post(3, b"", Err(Refusal::Narrow)),
+        Post(3, &[7; LONGEST_FRAME + 1], Err(Refusal::Narrow)),
+        Post(3, b"\x01\x03\x00\x28", Ok(())),
+        Post(3, b"", Err(Refusal::Posted)),
+        Post(3, b"\x04", Err(Refusal::Posted)),
+        Told(0b1111, 0b0010, 0b1010),
+        Fetch(0, 1, 25, Ok(None)),
+        Fetch(3, 1, 0, Ok(None)),
+        Fetch(2, 1, 25, Ok(Some(b"\x01\x01\x00\x81\x48"))),
         // No box is in its own lost set.
-        Hear(1, 1, Some(b"\x01\x01\x00\x81\x48")),
-        Hear(0, 1, None),
-        Hear(3, 1, None),
-        Hear(1, 0, Some(b"\x01\x00\x00\x1e")),
-        Hear(1, 3, Some(b"\x01\x03\x00\x28")),
-        Hear(0, 2, None),
+        Fetch(1, 1, 5, Ok(Some(b"\x01\x01\x00\x81\x48"))),
+        Fetch(1, 3, 5, Ok(Some(b"\x01\x03\x00\x28"))),
+        Fetch(1, 2, 25, Ok(None)),
+        Fetch(4, 3, 24, Err(Refusal::Stranger)),
+        Fetch(0, 4, 24, Err(Refusal::Stranger)),
+        Fetch(4, 3, 0, Err(Refusal::Stranger)),
+        Fetch(0, 3, 3, Err(Refusal::Narrow)),
+        Fetch(0, 3, 0, Err(Refusal::Narrow)),
+        // What stands posted stays after the close, also for those that lost it; and a box that has not may still post.
         Close,
+        Told(0b1101, 0, 0b1010),
+        Fetch(0, 1, 5, Ok(Some(b"\x01\x01\x00\x81\x48"))),
+        Post(1, b"", Err(Refusal::Down)),
+        Post(0, b"\x0a", Ok(())),
         Told(0b1101, 0, 0b1011),
-        Hear(0, 1, Some(b"\x01\x01\x00\x81\x48")),
         Open,
         Told(0b1101, 0, 0),
-        Hear(2, 1, None),
-        Hear(1, 0, None),
+        Fetch(2, 1, 25, Ok(None)),
+        Fall(1, 0, Err(Refusal::Down)),
+        Post(1, b"", Err(Refusal::Down)),
         // A shorter frame where a longer one stood, and another order of posting.
         Post(0, b"\x02\x00\x02\x14", Ok(())),
         Post(3, b"\x02", Ok(())),
-        Hear(2, 3, Some(b"\x02")),
-        Hear(3, 0, Some(b"\x02\x00\x02\x14")),
+        Fetch(3, 0, 4, Ok(Some(b"\x02\x00\x02\x14"))),
+        // A box that is down is told what it would hear.
+        Fetch(1, 3, 1, Ok(Some(b"\x02"))),
         // Two fall at once, after they have posted; a lost set may name a box that is down.
         Fall(0, 0b1010, Ok(())),
         Fall(3, 0b0100, Ok(())),
         Told(0b1101, 0b1001, 0b1001),
-        Hear(3, 0, None),
-        Hear(1, 0, None),
-        Hear(2, 0, Some(b"\x02\x00\x02\x14")),
-        Hear(2, 3, None),
-        Hear(0, 3, Some(b"\x02")),
+        Fetch(3, 0, 25, Ok(None)),
+        Fetch(1, 0, 25, Ok(None)),
+        Fetch(2, 0, 25, Ok(Some(b"\x02\x00\x02\x14"))),
+        Fetch(2, 3, 25, Ok(None)),
+        Fetch(0, 3, 25, Ok(Some(b"\x02"))),
         Close,
         Told(0b0100, 0, 0b1001),
     ];
@@ -213,7 +183,7 @@ fn full_company(rt: HostRuntime) -> Result<(), Fail> {
         steps.push(Told(u32::MAX, 0, u32::MAX))?;
         for p in 0..32 {
             for (q, frame) in (0..32).zip(posted) {
-                steps.push(Hear(p, q, Some(frame)))?;
+                steps.push(Fetch(p, q, LONGEST_FRAME, Ok(Some(frame))))?;
             }
         }
         steps.push(Close)?;
