@@ -5,8 +5,8 @@ use Rattle.std.proofs.lemmas.Bool.Decides.{nat_tests}
 use Rattle.std.proofs.lemmas.List.{length-take, drop_more, drop-drop, drop-set-lt, drop_all, take_more_set, append_assoc, append-nil, take-append-drop}
 use Rattle.base.specs.declared.refusal.Refusal.{Refusal}
 use Rattle.frames.specs.Frames.{longest_frame}
-use Rattle.boxes.specs.BoxRounds.{Outcome, rests, rings}
-use Rattle.boxes.specs.ByFrames.{outcome_by_frames}
+use Rattle.machine.specs.BoxRounds.{Outcome, rests, rings}
+use Rattle.machine.specs.ByFrames.{outcome_by_frames}
 use Rattle.machine.specs.Places.{PlaceState, at_rest, down, rung, state_of_outcome}
 use Rattle.machine.specs.State.{State}
 use Rattle.machine.specs.RoundCall.{round_to_come, frames_heard_by, place_after, on_round}

@@ -14,8 +14,8 @@ use Rattle.sets.specs.Companies.{is_company}
 use Rattle.sets.specs.Masks.{member}
 use Rattle.sets.proofs.MemberLemmas.{member_below, member_is, company_member, company_count}
 use Rattle.proposals.specs.Kinds.{Kind}
-use Rattle.frames.specs.declared.frame.Frame.{Frame}
-use Rattle.frames.specs.Frames.{frame_bytes, longest_frame}
+use Rattle.boxes.specs.Frame.{Frame}
+use Rattle.boxes.specs.Frames.{frame_bytes, longest_frame}
 use Rattle.boxes.specs.declared.states.Held.{Held}
 use Rattle.boxes.specs.declared.states.Notes.{Notes}
 use Rattle.boxes.specs.declared.states.Resting.{Resting}

@@ -18,8 +18,8 @@ pub use Rattle.sets.specs.declared.set.BoxSet
 pub use Rattle.sets.specs.Companies
 pub use Rattle.sets.specs.Masks
 pub use Rattle.proposals.specs.Kinds
-pub use Rattle.frames.specs.declared.frame.Frame
-pub use Rattle.frames.specs.Frames
+pub use Rattle.boxes.specs.Frame
+pub use Rattle.boxes.specs.Frames
 pub use Rattle.boxes.specs.declared.states.Held
 pub use Rattle.boxes.specs.declared.states.Notes
 pub use Rattle.boxes.specs.BoxRounds

@@ -8,8 +8,8 @@ use Rattle.sets.specs.declared.set.BoxSet.{BoxSet}
 use Rattle.sets.specs.Companies.{is_company}
 use Rattle.sets.specs.Masks.{member}
 use Rattle.proposals.specs.Kinds.{Kind}
-use Rattle.frames.specs.declared.frame.Frame.{Frame}
-use Rattle.frames.specs.Frames.{frame_bytes, longest_frame}
+use Rattle.boxes.specs.Frame.{Frame}
+use Rattle.boxes.specs.Frames.{frame_bytes, longest_frame}
 use Rattle.boxes.specs.declared.states.Held.{Held}
 use Rattle.boxes.specs.declared.states.Notes.{Notes}
 use Rattle.boxes.specs.Boxes.{frame_of}

@@ -8,8 +8,8 @@ use Rattle.base.specs.Numbered.{by_number}
 use Rattle.sets.specs.declared.round_number.RoundNumber.{RoundNumber}
 use Rattle.sets.specs.Masks.{member}
 use Rattle.proposals.specs.Kinds.{Kind}
-use Rattle.frames.specs.declared.frame.Frame.{Frame}
-use Rattle.frames.specs.Frames.{frame_bytes, longest_frame}
+use Rattle.boxes.specs.Frame.{Frame}
+use Rattle.boxes.specs.Frames.{frame_bytes, longest_frame}
 use Rattle.boxes.specs.Boxes.{frame_of}
 use Rattle.boxes.specs.ByFrames.{HeardFrames, outcome_by_frames}
 use Rattle.wire.specs.WireState as wire

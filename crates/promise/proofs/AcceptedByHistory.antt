@@ -9,8 +9,8 @@ use Rattle.base.proofs.NumberedLemmas.{list_none, none_list}
 use Rattle.sets.specs.declared.box_number.BoxNumber.{BoxNumber}
 use Rattle.sets.specs.declared.set.BoxSet.{BoxSet}
 use Rattle.proposals.specs.Kinds.{Kind}
-use Rattle.frames.specs.Frames.{longest_frame}
-use Rattle.wire.specs.WireState.{on_fall as wire_on_fall}
+use Rattle.machine.specs.Frames.{longest_frame}
+use Rattle.machine.specs.WireState.{on_fall as wire_on_fall}
 use Rattle.rule.specs.Falls.{fell_before, closes}
 use Rattle.rule.specs.Histories.{History, IsAllowed}
 use Rattle.rule.specs.RuleValues as rule

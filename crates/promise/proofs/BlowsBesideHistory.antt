@@ -4,7 +4,7 @@ use Rattle.std.proofs.Common.{◌≡◌, ℕ, Bool, true, false, cond, leb, ltb,
 use Rattle.base.proofs.NumberedLemmas.{list_ext}
 use Rattle.sets.specs.Companies.{is_company}
 use Rattle.proposals.specs.Kinds.{Kind}
-use Rattle.boxes.specs.BoxRounds.{Outcome, rests, rings}
+use Rattle.machine.specs.BoxRounds.{Outcome, rests, rings}
 use Rattle.rule.specs.declared.falls.Fall.{Fall}
 use Rattle.rule.specs.Histories.{History}
 use Rattle.rule.specs.HeldValues.{outcome_of}

@@ -10,7 +10,7 @@ use Rattle.sets.specs.declared.round_number.RoundNumber.{RoundNumber}
 use Rattle.sets.specs.declared.set.BoxSet.{BoxSet}
 use Rattle.sets.specs.Masks.{member}
 use Rattle.proposals.specs.Kinds.{Kind}
-use Rattle.wire.specs.WireState.{WireState, IsWellFormed, with_falling, on_fall as wire_on_fall}
+use Rattle.machine.specs.WireState.{WireState, IsWellFormed, with_falling, on_fall as wire_on_fall}
 use Rattle.rule.specs.Falls.{with_fall}
 use Rattle.rule.specs.Histories.{History}
 use Rattle.rule.specs.RuleLaws.{BoxBegins, BoxFollows, OnlyPastCounts, FallToComeCountsNot}

@@ -8,9 +8,9 @@ use Rattle.base.proofs.CountLemmas.{any_none, none_any, count_ext, count_more}
 use Rattle.sets.specs.declared.set.BoxSet.{BoxSet}
 use Rattle.sets.specs.Masks.{member, set_of}
 use Rattle.proposals.specs.Kinds.{Kind}
-use Rattle.frames.specs.Frames.{frame_bytes}
-use Rattle.boxes.specs.Boxes.{frame_of}
-use Rattle.wire.specs.WireState.{with_falling}
+use Rattle.machine.specs.Frames.{frame_bytes}
+use Rattle.machine.specs.Boxes.{frame_of}
+use Rattle.machine.specs.WireState.{with_falling}
 use Rattle.rule.specs.declared.falls.Fall.{Fall}
 use Rattle.rule.specs.Falls.{Falls, with_fall, fell_before}
 use Rattle.rule.specs.Histories.{History, IsAllowed, as_of}

@@ -15,8 +15,8 @@ use Rattle.sets.specs.Masks.{member, set_of}
 use Rattle.sets.proofs.BitLemmas.{bit_high}
 use Rattle.sets.proofs.MemberLemmas.{set_kept, member_below}
 use Rattle.proposals.specs.Kinds.{Kind}
-use Rattle.boxes.specs.Boxes.{first_held}
-use Rattle.wire.specs.WireState.{WireState, IsWellFormed}
+use Rattle.machine.specs.Boxes.{first_held}
+use Rattle.machine.specs.WireState.{WireState, IsWellFormed}
 use Rattle.rule.specs.Falls.{no_falls, closes}
 use Rattle.rule.specs.Histories.{History, IsAllowed}
 use Rattle.rule.specs.RuleValues as rule

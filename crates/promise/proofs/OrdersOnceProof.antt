@@ -11,10 +11,10 @@ use Rattle.sets.specs.declared.box_number.BoxNumber.{BoxNumber}
 use Rattle.sets.specs.declared.round_number.RoundNumber.{RoundNumber}
 use Rattle.sets.specs.declared.set.BoxSet.{BoxSet}
 use Rattle.proposals.specs.Kinds.{Kind}
-use Rattle.boxes.specs.Boxes.{first_held}
-use Rattle.boxes.specs.BoxRounds.{Outcome, rests, rings}
-use Rattle.boxes.specs.ByFrames.{outcome_by_frames}
-use Rattle.wire.specs.WireState.{WireState}
+use Rattle.machine.specs.Boxes.{first_held}
+use Rattle.machine.specs.BoxRounds.{Outcome, rests, rings}
+use Rattle.machine.specs.ByFrames.{outcome_by_frames}
+use Rattle.machine.specs.WireState.{WireState}
 use Rattle.machine.specs.declared.place.Blow.{Blow}
 use Rattle.machine.specs.declared.place.Blow.TheVariants as blow
 use Rattle.machine.specs.Places.{PlaceState, at_rest, down, rung, state_of_outcome, with_its_blow, is_undrawn, is_out}

@@ -10,12 +10,12 @@ use Rattle.base.proofs.NumberedLemmas.{list_ext, get-by_number, list_none}
 use Rattle.sets.specs.Masks.{member}
 use Rattle.sets.proofs.BitLemmas.{set_ext}
 use Rattle.proposals.specs.Kinds.{Kind}
-use Rattle.frames.specs.Frames.{frame_bytes}
-use Rattle.boxes.specs.declared.states.Held.{Held}
-use Rattle.boxes.specs.Boxes.{frame_of}
-use Rattle.boxes.specs.BoxRounds.{Outcome, rings, close_with}
-use Rattle.boxes.specs.ByFrames.{HeardFrames, close_by_frames, outcome_by_frames}
-use Rattle.wire.specs.WireState.{is_in}
+use Rattle.machine.specs.Frames.{frame_bytes}
+use Rattle.machine.specs.Held.{Held}
+use Rattle.machine.specs.Boxes.{frame_of}
+use Rattle.machine.specs.BoxRounds.{Outcome, rings, close_with}
+use Rattle.machine.specs.ByFrames.{HeardFrames, close_by_frames, outcome_by_frames}
+use Rattle.machine.specs.WireState.{is_in}
 use Rattle.rule.specs.declared.falls.Fall.{Fall}
 use Rattle.rule.specs.Falls.{fell_before, fell_in, lasts, closes, hears}
 use Rattle.rule.specs.Histories.{History, IsAllowed}

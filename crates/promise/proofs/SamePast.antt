@@ -1,7 +1,7 @@
 -- Histories that are the same up to some round have the same values up to it.
 use Rattle.std.proofs.Common.{◌≡◌, ℕ, ◌≤◌, cond, eqb, sym, ap, ◌∙◌}
 use Rattle.proposals.specs.Kinds.{Kind}
-use Rattle.boxes.specs.BoxRounds.{rests, rings}
+use Rattle.machine.specs.BoxRounds.{rests, rings}
 use Rattle.rule.specs.Falls.{closes}
 use Rattle.rule.specs.Histories.{History, as_of}
 use Rattle.rule.specs.RuleValues as rule

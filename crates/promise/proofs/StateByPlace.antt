@@ -11,8 +11,8 @@ use Rattle.sets.specs.Companies.{is_company}
 use Rattle.sets.specs.Masks.{member}
 use Rattle.sets.proofs.MemberLemmas.{company_member}
 use Rattle.proposals.specs.Kinds.{Kind}
-use Rattle.boxes.specs.BoxRounds.{Outcome, rests, rings}
-use Rattle.wire.specs.WireState.{is_in}
+use Rattle.machine.specs.BoxRounds.{Outcome, rests, rings}
+use Rattle.machine.specs.WireState.{is_in}
 use Rattle.rule.specs.declared.falls.Fall.{Fall}
 use Rattle.rule.specs.Falls.{fell_before, fell_in, fell_unheard, lasts, closes}
 use Rattle.rule.specs.Histories.{History}

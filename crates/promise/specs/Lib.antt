@@ -14,9 +14,9 @@ pub use Rattle.sets.specs.Companies
 pub use Rattle.sets.specs.Masks
 pub use Rattle.proposals.specs.Kinds
 pub use Rattle.proposals.specs.Orders
-pub use Rattle.frames.specs.Frames
-pub use Rattle.boxes.specs.BoxRounds
-pub use Rattle.wire.specs.WireState
+pub use Rattle.machine.specs.Frames
+pub use Rattle.machine.specs.BoxRounds
+pub use Rattle.machine.specs.WireState
 pub use Rattle.rule.specs.declared.falls.Fall
 pub use Rattle.rule.specs.Falls
 pub use Rattle.rule.specs.HeldValues

@@ -10,8 +10,8 @@ use Rattle.sets.specs.declared.round_number.RoundNumber.{RoundNumber}
 use Rattle.sets.specs.declared.set.BoxSet.{BoxSet}
 use Rattle.sets.specs.Companies.{is_bad_lost}
 use Rattle.proposals.specs.Kinds.{Kind}
-use Rattle.frames.specs.Frames.{longest_frame}
-use Rattle.wire.specs.WireState.{WireState, IsWellFormed}
+use Rattle.machine.specs.Frames.{longest_frame}
+use Rattle.machine.specs.WireState.{WireState, IsWellFormed}
 use Rattle.rule.specs.Falls.{closes}
 use Rattle.rule.specs.Histories.{History, IsAllowed}
 use Rattle.rule.specs.RuleValues.{rings, estimate}

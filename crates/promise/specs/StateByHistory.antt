@@ -4,9 +4,9 @@ use Rattle.std.specs.List.{range_with_len}
 use Rattle.sets.specs.declared.set.BoxSet.{BoxSet}
 use Rattle.sets.specs.Masks.{set_of}
 use Rattle.proposals.specs.Kinds.{Kind}
-use Rattle.frames.specs.Frames.{frame_bytes}
-use Rattle.boxes.specs.BoxRounds.{Outcome}
-use Rattle.wire.specs.WireState.{WireState}
+use Rattle.machine.specs.Frames.{frame_bytes}
+use Rattle.machine.specs.BoxRounds.{Outcome}
+use Rattle.machine.specs.WireState.{WireState}
 use Rattle.rule.specs.declared.falls.Fall.{Fall}
 use Rattle.rule.specs.Falls.{fell_before, closes}
 use Rattle.rule.specs.Histories.{History}

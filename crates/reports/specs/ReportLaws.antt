@@ -4,7 +4,7 @@ use Rattle.std.specs.List.{AllByRecursion}
 use Rattle.base.specs.declared.refusal.Refusal.{Refusal}
 use Rattle.base.specs.declared.refusal.Refusal.TheVariants.{Silent}
 use Rattle.base.specs.Limits.{most_company}
-use Rattle.boxes.specs.declared.states.Held.{Held}
+use Rattle.machine.specs.Held.{Held}
 use Rattle.machine.specs.declared.place.Blow.TheVariants as blow
 use Rattle.machine.specs.Places.{PlaceState, at_rest, down, rung}
 use Rattle.reports.specs.Reports.{refusal_line, report_text}

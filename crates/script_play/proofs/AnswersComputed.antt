@@ -5,7 +5,7 @@ use native.Mathlib.Decide.{dec_le}
 use Rattle.base.specs.Counts.{any, count}
 use Rattle.sets.specs.Masks.{bit, mask_of}
 use Rattle.proposals.specs.Orders.{foremost}
-use Rattle.numbers.specs.Numbers.{read_groups}
+use Rattle.scripts.specs.Numbers.{read_groups}
 use Rattle.frames.specs.Frames.{read_image, read_proposal}
 use Rattle.rule.specs.Falls.{closes, hears, found_missing, waste}
 use Rattle.rule.specs.RuleValues.{missing_after, known_missing, smallest, best_horizon, estimate}
