@@ -225,7 +225,8 @@ module _ {K : Type 0} (kind : Kind K) (s : State K) (row : List (Place K)) (is :
 
 -- what reaches a box has room where there is room for the longest frame
 fetches_by : {K : Type 0} (kind : Kind K) (s : State K) (row : List (Place K)) (is : s.row ≡ map place_state row)
-    (formed : IsWellFormed s.wire) (good : bad_row s ≡ false) (still : is_over s ≡ false) → FrameIsShort kind → (p q room : ℕ) → p < s.wire.n → q < s.wire.n → longest_frame ≤ room
+    (formed : IsWellFormed s.wire) (good : bad_row s ≡ false) (still : is_over s ≡ false) → FrameIsShort kind
+    → (p q room : ℕ) → p < s.wire.n → q < s.wire.n → longest_frame ≤ room
     → on_fetch p q room (wire_in_round kind s) ≡ Ok (option_map (frame_bytes kind) (frames_heard_by s p q))
 fetches_by {K} kind s row is formed good still short p q room l k fits =
     fits_room (wire_in_round kind s) p q room (option_map (frame_bytes kind) (frames_heard_by s p q)) (heard_bytes kind s row is formed good still p q)

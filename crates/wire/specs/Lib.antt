@@ -4,12 +4,12 @@ pub mod Rosters
 pub mod WireLemmas
 pub mod WireState
 pub mod Wires
-pub use Rattle.base.specs.declared.refusal.Refusal
 pub use Rattle.base.specs.Buffers
 pub use Rattle.base.specs.Refusals
 pub use Rattle.base.specs.Results
-pub use Rattle.sets.specs.declared.box_number.BoxNumber
-pub use Rattle.sets.specs.declared.set.BoxSet
+pub use Rattle.base.specs.declared.refusal.Refusal
+pub use Rattle.frames.specs.Frames
 pub use Rattle.sets.specs.Companies
 pub use Rattle.sets.specs.Masks
-pub use Rattle.frames.specs.Frames
+pub use Rattle.sets.specs.declared.box_number.BoxNumber
+pub use Rattle.sets.specs.declared.set.BoxSet

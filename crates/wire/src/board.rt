@@ -17,6 +17,7 @@ pub struct Board {
     pub(crate) roster: Roster,
     // By the number of the box; of no meaning where it has not posted.
     pub(crate) lines: [ArrayVec<u8, LONGEST_FRAME>; PLACES],
+    // The line of each box that has posted holds a frame.
     ghost postable: { (q : ℕ) → member roster.posted q ≡ true
         → is_postable (line_frame lines q) ≡ true },
 }

@@ -9,6 +9,7 @@ use base::Refusal;
 use sets::{BoxNumber, BoxSet};
 
 impl Wire for Board {
+    // The roster, and the frames on the lines.
     ghost meaning = { board_meaning };
 
     ghost formed = { board_formed };

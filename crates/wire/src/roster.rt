@@ -19,8 +19,10 @@ pub(crate) struct Roster {
     // The lost set of each box, by its number; of no meaning where it is not falling.
     pub lost: [BoxSet; PLACES],
     pub posted: BoxSet,
+    // A company has 2 to 32 boxes.
     ghost several: { 2 ≤ n },
     ghost few: { n ≤ 32 },
+    // Only its boxes are up, are falling and have posted; one that is falling is up, and its lost set has only others.
     ghost up_within: { up.mask < 2 ^ n },
     ghost losing: { (q : ℕ) → member falling q ≡ true → IsFalling n up q (set_at lost q) },
     ghost posted_within: { posted.mask < 2 ^ n },

@@ -22,9 +22,12 @@ pub struct Tape {
     // By the number of the box; of no meaning where it has not posted.
     pub(crate) spans: [Span; PLACES],
     pub(crate) frames: ArrayVec<u8, TAPE_ROOM>,
+    // The span of each box that has posted holds a frame, within the bytes in use.
     ghost holds: { (q : ℕ) → member roster.posted q ≡ true
         → HoldsFrame (length frames.items) (span_at spans q) },
+    // No two of these spans share a byte.
     ghost apart: { AreApart (member roster.posted) (span_at spans) },
+    // Their lengths add up to the bytes in use.
     ghost filled: { length frames.items ≡ sum_over (member roster.posted) (span_length spans) 32 },
 }
 

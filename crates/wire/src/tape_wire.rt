@@ -8,6 +8,7 @@ use base::Refusal;
 use sets::{BoxNumber, BoxSet};
 
 impl Wire for Tape {
+    // The roster, and the frames in the spans.
     ghost meaning = { tape_meaning };
 
     ghost formed = { tape_formed };
