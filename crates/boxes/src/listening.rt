@@ -139,7 +139,7 @@ impl<K: Proposal> Listening<K> {
 
     /// Closes the round by the frames heard. The box then rings, in this round, on the estimate that goes first among its own and those heard, if the
     /// round is its best horizon; else it is at rest, with one round more closed, that estimate, and the boxes not heard for those that it misses.
-    /// Refuses tally (10), and then gives the box back as it was, if it did not hear more than t boxes, or heard one that it knows missing.
+    /// Refuses tally (10), and then gives the box back as it was, if more than t boxes were not heard, or if one that was heard is told missing.
     #[tactic(auto, unfolding(crate::specs::BoxRounds::on_close, crate::specs::BoxRounds::close_with))]
     pub fn close(self) -> Result<Closed<K>, Refused<Listening<K>, BoxFault>>
         ensures { result_map_both outcome (λ e. e) result
@@ -171,5 +171,14 @@ impl<K: Proposal> Listening<K> {
                 ..self.resting.held
             },
         }))
+    }
+}
+
+/// The fault alone: the box is let go.
+impl<K: Copy> From<Refused<Listening<K>, BoxFault>> for BoxFault {
+    ghost from_gives = { λ refused r. r ≡ refused.fault };
+
+    fn from(refused: Refused<Listening<K>, BoxFault>) -> BoxFault {
+        refused.fault
     }
 }

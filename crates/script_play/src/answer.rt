@@ -18,7 +18,7 @@ use proposals::Piece;
 use reports::{LONGEST_REPORT, reports_laws, write_refusal, write_report};
 use ringing::Ringing;
 use scripts::{Script, read_script, scripts_laws};
-use sets::{MOST_COMPANY, RoundNumber};
+use sets::MOST_COMPANY;
 use wire::Board;
 
 // Places for the boxes of the largest company.
@@ -49,7 +49,7 @@ fn write_script_report(bytes: &[u8], out: &mut [u8]) -> Result<usize, Refusal>
     play_laws::<Piece>();
     reports_laws::<Piece>();
     let mut pieces = [Piece::new(0).unwrap(); PLACES];
-    let mut places = [Place::Down(RoundNumber(0)); PLACES];
+    let mut places = [Place::default(); PLACES];
     let script = read_script(bytes, &mut pieces)?;
     let n = script.n() as usize;
     let row = &mut places[..n];
