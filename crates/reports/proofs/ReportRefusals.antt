@@ -5,7 +5,7 @@ use Rattle.std.specs.Option.{ok_or}
 use Rattle.std.proofs.lemmas.Bool.Decides.{nat_tests}
 use Rattle.base.specs.declared.refusal.Refusal.{Refusal}
 use Rattle.base.specs.declared.refusal.Refusal.TheVariants as refusal
-use Rattle.base.specs.Buffers.{with_front, len_if_room}
+use Rattle.base.specs.Buffers.{with_front, len_if_room, front_len, front_after}
 use Rattle.sets.specs.declared.box_number.BoxNumber.{BoxNumber}
 use Rattle.sets.specs.Companies.{is_company}
 use Rattle.machine.specs.declared.place.Standing.{Standing}
@@ -14,7 +14,7 @@ use Rattle.machine.specs.State.{State}
 use Rattle.machine.specs.RowCheck.{bad_row, is_over}
 use Rattle.machine.specs.AskCall.{on_ask}
 use Rattle.base.proofs.NumberedLemmas.{get_some}
-use Rattle.reports.specs.Reports.{report_text, report_or_refusal, report_answer, report_bytes}
+use Rattle.reports.specs.Reports.{report_text, report_or_refusal}
 use Rattle.proposals.specs.Kinds.{Kind}
 
 module _ {K : Type 0} (s : State K) where
@@ -71,6 +71,6 @@ module _ {K : Type 0} (s : State K) where
 
     -- what is told and written where the row is not refused and a box rings
     pub report_told : (out : List ℕ) → length out ≡ room → bad_row s ≡ false → is_over s ≡ true
-        → (len_if_room (report_text kind s.row) out ≡ report_answer (report_or_refusal kind room s))
-        × (with_front (report_text kind s.row) out ≡ report_bytes out (report_or_refusal kind room s))
+        → (len_if_room (report_text kind s.row) out ≡ front_len (report_or_refusal kind room s))
+        × (with_front (report_text kind s.row) out ≡ front_after (report_or_refusal kind room s) out)
     report_told out long good some = let r = report_rung good some in (grind (arith, nat_tests), grind (arith, nat_tests))

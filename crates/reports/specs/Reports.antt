@@ -16,15 +16,6 @@ use Rattle.proposals.specs.Kinds.{Kind}
 unfoldable pub spaced_numbers : List ℕ → List ℕ
 spaced_numbers numbers = flat_map (λ n. codes " " ++ decimal n) numbers
 
--- what is written where so many bytes stand: the text at their front, with what stood behind it, or nothing where it was refused
-abbrev pub report_bytes : List ℕ → Result (List ℕ) Refusal → List ℕ
-report_bytes out (Ok text) = text ++ drop (length text) out
-report_bytes out (Err e) = out
-
--- what is told of that: how many bytes the text has, or why it was refused
-abbrev pub report_answer : Result (List ℕ) Refusal → Result ℕ Refusal
-report_answer r = result_map_both length (λ e. e) r
-
 -- the line of a refusal, with its number
 unfoldable pub refusal_line : Refusal → List ℕ
 refusal_line e = codes "refused " ++ (decimal (number_of e) ++ codes "\n")

@@ -1,8 +1,8 @@
 // Reports and lines of refusals, written into bytes that are given.
 ghost use Rattle.std.specs.Prelude.{◌≡◌, length};
-ghost use Rattle.base.specs.Buffers.{with_front, len_if_room};
+ghost use Rattle.base.specs.Buffers.{front_after, front_len, len_if_room, with_front};
 ghost use Rattle.ringing.specs.RingingStates.{state_of};
-ghost use Rattle.reports.specs.Reports.{refusal_line, report_or_refusal, report_answer, report_bytes};
+ghost use Rattle.reports.specs.Reports.{refusal_line, report_or_refusal};
 
 use super::text::{put, refusal_text, report_text};
 use base::Refusal;
@@ -30,9 +30,9 @@ pub fn write_report<W: Wire, K: Proposal>(
     out: &mut [u8],
 ) -> Result<usize, Refusal>
     ensures answer { let s = state_of ringing.now row.now in
-        result ≡ report_answer (report_or_refusal K.kind (length out.old) s) }
+        result ≡ front_len (report_or_refusal K.kind (length out.old) s) }
     ensures bytes { let s = state_of ringing.now row.now in
-        out.new ≡ report_bytes out.old (report_or_refusal K.kind (length out.old) s) }
+        out.new ≡ front_after (report_or_refusal K.kind (length out.old) s) out.old }
 {
     // Asking after a box of the company judges the row, and box 0 is in every company.
     ringing.ask(row, BoxNumber(0))?;

@@ -66,8 +66,7 @@ module _ (m : WireState) (w : IsWellFormed m) (p q : ℕ) where
         by (Some f) t n short =
             let s = short f refl in
             let same : length f ≡ a = cc in
-            let fits : leb (length f) (length out) ≡ true = grind (arith, nat_tests) in
-            let is_new : new ≡ f ++ drop (length f) out = n ∙ ap (λ b. cond b (f ++ drop (length f) out) out) fits in
+            let is_new : new ≡ f ++ drop (length f) out = n in
             let len : length new ≡ length f + length (drop (length f) out) = ap length is_new ∙ length-append f (drop (length f) out) in
             (omega (arith, same, len), ap Some (sym (ap (λ x. take x new) (sym same) ∙ ap (take (length f)) is_new ∙ take-append_seam f (drop (length f) out))))
 

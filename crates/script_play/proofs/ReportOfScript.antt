@@ -9,7 +9,7 @@ use Rattle.std.proofs.lemmas.List.{take_at, length-append}
 use Rattle.std.proofs.lemmas.Option.{slice_get_within, get_or_from_slice_get}
 use Rattle.base.specs.declared.refusal.Refusal.{Refusal}
 use Rattle.base.specs.declared.refusal.Refusal.TheVariants.{Narrow}
-use Rattle.base.specs.Buffers.{len_if_room}
+use Rattle.base.specs.Buffers.{len_if_room, front_len, front_after}
 use Rattle.sets.specs.Companies.{is_company}
 use Rattle.base.specs.Limits.{most_company}
 use Rattle.sets.specs.Masks.{member}
@@ -29,7 +29,7 @@ use Rattle.promise.proofs.StateByPlace.{row_length}
 use Rattle.scripts.specs.ScriptValues.{ScriptValues, KeepsLimits}
 use Rattle.scripts.specs.ScriptReading.{read_script, places_after}
 use Rattle.scripts.specs.ScriptLaws.{MayBeRead}
-use Rattle.reports.specs.Reports.{report_text, report_or_refusal, report_answer, report_bytes}
+use Rattle.reports.specs.Reports.{report_text, report_or_refusal}
 use Rattle.reports.specs.ReportLaws.{longest_report, IsEarly, ReportLength}
 use Rattle.script_play.specs.ScriptCalls.{falls_of, ringing_round_of, history_of, on_play}
 use Rattle.script_play.specs.PlayLaws.{ScriptPlays, BytesPlay}
@@ -139,7 +139,7 @@ bytes_small bytes fits = all_at (λ b. b < 256) bytes (λ p x at. let e = get_or
 -- the places of the proposals
 pub laid_first : {K : Type 0} (r : Result (ScriptValues × List K) Refusal) (s : ScriptValues) (ps old new : List K) (n : ℕ) → r ≡ Ok (s, ps)
     → new ≡ places_after r old → length ps ≡ n → take n new ≡ ps
-laid_first r s ps old new n is report_bytes long = ap (take n) (report_bytes ∙ ap (λ x. places_after x old) is) ∙ take_at ps (drop (length ps) old) n long
+laid_first r s ps old new n is laid long = ap (take n) (laid ∙ ap (λ x. places_after x old) is) ∙ take_at ps (drop (length ps) old) n long
 
 pub read_ok : {K : Type 0} (r : Result (ScriptValues × List K) Refusal) (s : ScriptValues) → Ok s ≡ result_map_both (λ x. x.0) (λ e. e) r
     → (ps : List K) × (r ≡ Ok (s, ps))
@@ -158,7 +158,7 @@ pub line_fits : (text out : List ℕ) → length text ≤ length out → IsOk (l
 line_fits text out fits = (let k : leb (length text) (length out) ≡ true = grind (arith, nat_tests) in subst (λ b. IsOk (cond b (Ok (length text)) (Err Narrow))) (sym k) refl)
 
 -- what was written is not longer than the bytes
-pub told_fits : (r : Result (List ℕ) Refusal) (out new : List ℕ) (k : ℕ) → Ok k ≡ report_answer r → new ≡ report_bytes out r
+pub told_fits : (r : Result (List ℕ) Refusal) (out new : List ℕ) (k : ℕ) → Ok k ≡ front_len r → new ≡ front_after r out
     → k ≤ length new
 told_fits (Ok text) out new k is written = (let l = ap length written in let a = length-append text (drop (length text) out) in grind arith)
 told_fits (Err e) out new k is written = absurd (grind arith)

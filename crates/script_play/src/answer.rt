@@ -4,7 +4,7 @@ ghost use Rattle.proposals.specs.Pieces.{piece_kind};
 ghost use Rattle.promise.specs.StateByHistory.{state_by};
 ghost use Rattle.ringing.specs.RingingStates.{state_of};
 ghost use Rattle.scripts.specs.ScriptValues.{values_of};
-ghost use Rattle.reports.specs.Reports.{report_answer, report_bytes};
+ghost use Rattle.base.specs.Buffers.{front_len, front_after};
 ghost use Rattle.reports.specs.ReportLaws.{longest_report};
 ghost use Rattle.script_play.specs.ScriptCalls.{history_of};
 ghost use Rattle.script_play.specs.PlayLaws.{BytesPlay};
@@ -42,7 +42,7 @@ fn write_script_report(bytes: &[u8], out: &mut [u8]) -> Result<usize, Refusal>
     requires { longest_report ≤ length out.old }
     ensures { (past_end : Piece) →
         let report = script_report piece_kind bytes.now past_end in
-        (result ≡ report_answer report) × (out.new ≡ report_bytes out.old report) }
+        (result ≡ front_len report) × (out.new ≡ front_after report out.old) }
 {
     scripts_laws::<Piece>();
     machine_laws::<Piece>();

@@ -4,7 +4,7 @@ use Rattle.std.specs.Result.{result_map_both}
 use Rattle.base.specs.declared.refusal.Refusal.{Refusal}
 use Rattle.base.specs.declared.refusal.Refusal.TheVariants as refusal
 use Rattle.base.specs.Refusals.{unless}
-use Rattle.base.specs.Buffers.{with_front}
+use Rattle.base.specs.Buffers.{front_after}
 use Rattle.sets.specs.declared.set.BoxSet.{BoxSet}
 use Rattle.sets.specs.Companies.{is_company_size, is_bad_lost}
 use Rattle.sets.specs.Masks.{member, set_of}
@@ -119,8 +119,6 @@ on_fetch p q room m =
 abbrev pub fetch_answer : Result (Option (List ℕ)) Refusal → Result (Option ℕ) Refusal
 fetch_answer r = result_map_both (option_map length) (λ e. e) r
 
--- what the bytes given hold then
+-- what the bytes given hold then: the frame at their front, if one was given
 abbrev pub fetched_bytes : Result (Option (List ℕ)) Refusal → List ℕ → List ℕ
-fetched_bytes (Ok (Some f)) out = with_front f out
-fetched_bytes (Ok None) out = out
-fetched_bytes (Err e) out = out
+fetched_bytes r out = front_after (result_map_both (λ frame. unwrap_or frame []) (λ e. e) r) out
