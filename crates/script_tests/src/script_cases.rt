@@ -1,6 +1,7 @@
 // Scripts of calls, read and played, and what is answered and reported. Scripts of pieces, with each refusal and of two faults the first, stand in
 // examples/ and in the worked examples of crate `scripts`.
 use base::{Refusal, Refused};
+use fixtures::proposals;
 use frames::LONGEST_FRAME;
 use machine::Place;
 use proposals::{Call, Piece};
@@ -131,14 +132,8 @@ fn taken(rt: &impl Abort, answer: Result<(), Refused<StrikeOrder, Refusal>>) {
 // Box 2 falls in round 1, unheard by box 0; the others ring in round 3 on its piece.
 #[test]
 fn reports(rt: HostRuntime) -> Result<(), Fail> {
-    let proposals = [
-        Piece::new(30)?,
-        Piece::new(20)?,
-        Piece::new(10)?,
-        Piece::new(40)?,
-    ];
     let mut row = [Place::default(); 4];
-    let mut ringing = Ringing::make(4, 2, Board::new(4)?, &mut row, &proposals)?;
+    let mut ringing = Ringing::make(4, 2, Board::new(4)?, &mut row, &proposals()?)?;
     ringing.fall(&row, BoxNumber(2), BoxSet::only(BoxNumber(0)))?;
     let mut line = [0; LONGEST_FRAME];
     let mut out = [0; 50];
