@@ -75,11 +75,11 @@ def play(n, t, pieces, falls):
     due = t + 1 - max([0] + [len(found_missing(r)) - r for r in range(1, t + 2)])
     missed, best, estimate = [set() for _ in boxes], [t + 1] * n, pieces
     for r in range(1, due + 1):
-        ear = [heard(p, r) for p in boxes]
-        known = [set().union(*(missed[q] for q in ear[p])) for p in boxes]
-        missed = [set(boxes) - set(ear[p]) for p in boxes]
+        heard_by = [heard(p, r) for p in boxes]
+        known = [set().union(*(missed[q] for q in heard_by[p])) for p in boxes]
+        missed = [set(boxes) - set(heard_by[p]) for p in boxes]
         best = [min(best[p], r + t - len(known[p])) for p in boxes]
-        estimate = [min(estimate[q] for q in ear[p]) for p in boxes]
+        estimate = [min(estimate[q] for q in heard_by[p]) for p in boxes]
         ringing = {p for p in boxes if closes(p, r) and best[p] == r}
         # What is proved: nobody rings before that round, and in it each that closes it, on one piece.
         assert ringing == ({p for p in boxes if closes(p, r)} if r == due else set())
