@@ -136,12 +136,12 @@ module _ (bytes behind : List ℕ) where
   at_keeps place = keeps_map _ _ _ _ (number_keeps bytes behind place)
 
   field_keeps : (f : Field) (place : ℕ) → Keeps (λ e. e.fault.refusal) (read_field f bytes place) (read_field f (bytes ++ behind) place)
-  field_keeps f place = keeps_then _ _ _ _ _ _ (number_keeps bytes behind place) (λ d. keeps_refl _ _)
+  field_keeps f place = keeps_map _ _ _ _ (number_keeps bytes behind place)
 
   image_keeps : (size place : ℕ) → Keeps refusal_of (read_image bytes size place) (read_image (bytes ++ behind) size place)
   unfolding read_image
   image_keeps zero place = keeps_refl _ _
-  image_keeps (suc size) place = keeps_then _ _ _ _ _ _ (field_keeps field.Image place) (λ d. keeps_then _ _ _ _ _ _ (image_keeps size d.next) (λ rest. keeps_refl _ _))
+  image_keeps (suc size) place = keeps_then _ _ _ _ _ _ (keeps_map _ _ _ _ (field_keeps field.Image place)) (λ d. keeps_then _ _ _ _ _ _ (image_keeps size d.next) (λ rest. keeps_refl _ _))
 
   head_keeps : (places : ℕ) → Keeps (λ (e : Refusal). e) (read_head places bytes) (read_head places (bytes ++ behind))
   unfolding read_head
