@@ -155,7 +155,7 @@ module _ {K : Type 0} (kind : Kind K) (accepted : MakeIsAccepted K) (plays : Scr
       ∙ ap (result_map_both (λ x. report_text kind (row_by kind (history_of x.0 x.1 past_end))) (λ e. e)) (sym is)
 
 pub line_fits : (text out : List ℕ) → length text ≤ length out → IsOk (len_if_room text out)
-line_fits text out fits = (let k : leb (length text) (length out) ≡ true = grind (arith, nat_tests) in subst (λ b. IsOk (cond b (Ok (length text)) (Err Narrow))) (sym k) refl)
+line_fits text out fits = (let k : leb (length text) (length out) ≡ true = grind (arith, nat_tests) in subst (λ b. IsOk (front_len (cond b (Ok text) (Err Narrow)))) (sym k) refl)
 
 -- what was written is not longer than the bytes
 pub told_fits : (r : Result (List ℕ) Refusal) (out new : List ℕ) (k : ℕ) → Ok k ≡ front_len r → new ≡ front_after r out
