@@ -41,19 +41,25 @@ fn calls_are_read(rt: HostRuntime) -> Result<(), Fail> {
     Ok(())
 }
 
-// Ranks 0 and 10, and a piece of 16384. No place is touched.
+// No place is touched, also where all the calls are read.
 #[test]
 fn calls_are_refused(rt: HostRuntime) -> Result<(), Fail> {
-    let cases: [&[u8]; 3] = [
-        b"\x03\x01\x02\x0a\x00\x28",
-        b"\x03\x01\x02\x0a\x0a\x28",
-        b"\x03\x01\x02\x0a\x05\x81\x80\x00",
+    let cases: [(&[u8], Refusal); 5] = [
+        // Ranks 0 and 10, and a piece of 16384.
+        (b"\x03\x01\x02\x0a\x00\x28", Refusal::Image),
+        (b"\x03\x01\x02\x0a\x0a\x28", Refusal::Image),
+        (b"\x03\x01\x02\x0a\x05\x81\x80\x00", Refusal::Image),
+        (b"\x03\x01\x02\x0a\x05\x80\x28", Refusal::Padded),
+        (
+            b"\x03\x01\x02\x0a\x05\x28\x05\x1e\x00\x00",
+            Refusal::Surplus,
+        ),
     ];
     let old = calls()?;
-    for bytes in cases {
+    for (bytes, refusal) in cases {
         let mut places = old;
         let answer = read_script(bytes, &mut places);
-        assert!(rt; answer.err() == Some(Refusal::Image) && places == old);
+        assert!(rt; answer.err() == Some(refusal) && places == old);
     }
     Ok(())
 }
@@ -136,22 +142,19 @@ fn reports(rt: HostRuntime) -> Result<(), Fail> {
     let mut ringing = Ringing::make(4, 2, Board::new(4)?, &mut row, &proposals()?)?;
     ringing.fall(&row, BoxNumber(2), BoxSet::only(BoxNumber(0)))?;
     let mut line = [0; LONGEST_FRAME];
-    let mut out = [0; 50];
     for _ in 0..3 {
         assert_eq!(rt;
-            write_report(&ringing, &row[..3], &mut out[..0]),
+            write_report(&ringing, &row[..3], &mut []),
             Err(Refusal::Row)
         );
-        assert_eq!(rt;
-            write_report(&ringing, &row, &mut out[..0]),
-            Err(Refusal::Silent)
-        );
+        assert_eq!(rt; write_report(&ringing, &row, &mut []), Err(Refusal::Silent));
         ringing.round(&mut row, &mut line)?;
     }
     assert_eq!(rt;
-        write_report(&ringing, &row, &mut out[..47]),
+        write_report(&ringing, &row, &mut [0; 47]),
         Err(Refusal::Narrow)
     );
+    let mut out = [0; 50];
     assert_eq!(rt; write_report(&ringing, &row, &mut out), Ok(48));
     assert!(rt; out == *b"0 rings 3 10\n1 rings 3 10\n2 down 1\n3 rings 3 10\n\0\0");
     let order = ringing.draw(&mut row, BoxNumber(0))?;
