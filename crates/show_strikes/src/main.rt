@@ -140,7 +140,8 @@ fn show_answers(
 // Gives back an order that is still in hand, as missed. It is proved that it is taken back.
 fn give_back<W: Wire>(ringing: &Ringing<W>, row: &mut [Place<Piece>], slot: Option<StrikeOrder>)
     requires { let s = state_of ringing.now row.old in IsTakenBack s slot }
-    ensures { let s = state_of ringing.now row.old in state_of ringing.now row.new ≡ orders_returned slot s }
+    ensures { let s = state_of ringing.now row.old in
+        state_of ringing.now row.new ≡ orders_returned slot s }
 {
     match slot {
         None => (),
