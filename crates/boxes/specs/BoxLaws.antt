@@ -65,10 +65,12 @@ SentAreRead {K} kind = (sent : List (Frame K)) → All HeadFits sent → frames_
 module _ {K : Type 0} (kind : Kind K) where
   -- whatever was told to a box in a round, its notes are of the frames heard: from whom, whom they tell missing, which estimate goes first
   abbrev pub NotesShowFrames : Type 0
-  NotesShowFrames = (b : Resting K) (told : List (List ℕ))
-      → ((notes_after kind b.held (open_notes b.held) told).heard ≡ set_of (λ i. is_some (heard_frames b.held (frames_in kind told) i)))
-      × ((notes_after kind b.held (open_notes b.held) told).known ≡ boxes_told_missing b.held (heard_frames b.held (frames_in kind told)))
-      × (first_estimate b.held (heard_frames b.held (frames_in kind told)) kind ≡ Some (notes_after kind b.held (open_notes b.held) told).foremost)
+  NotesShowFrames = (b : Resting K) (told : List (List ℕ)) → (
+      let notes = notes_after kind b.held (open_notes b.held) told in
+      let heard = heard_frames b.held (frames_in kind told) in
+      (notes.heard ≡ set_of (λ i. is_some (heard i)))
+      × (notes.known ≡ boxes_told_missing b.held heard)
+      × (first_estimate b.held heard kind ≡ Some notes.foremost))
 
   -- and it closes the round as the rule says of them
   abbrev pub ClosesByFrames : Type 0

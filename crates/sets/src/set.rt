@@ -10,7 +10,7 @@ use super::company::MOST_COMPANY;
 /// A set of the boxes numbered from 0 to 31. Any two sets with the same boxes are equal.
 #[derive(Clone, Copy, PartialEq, Eq, Debug)]
 pub struct BoxSet {
-    // bit i stands for box i
+    // Bit i stands for box i.
     mask: u32,
 }
 
