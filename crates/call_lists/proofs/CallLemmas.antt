@@ -17,7 +17,7 @@ use Rattle.promise.specs.CallLog.{Answer, Log, first_history, undrawn_log, log_a
 use Rattle.promise.specs.CallSteps.{answer_to, state_after_call, state_after, answers_to}
 use Rattle.promise.specs.Promise.{OneRing}
 use Rattle.promise.specs.PromiseLaws.{FollowsRule, IsPromised, CallsArePromised}
-use Rattle.promise.proofs.ListAfterList.{after-append, course-append, course-surplus}
+use Rattle.promise.proofs.ListAfterList.{after-append, log-append, log-surplus}
 use Rattle.promise.proofs.CallKeepsLog.{was_played}
 use Rattle.call_lists.specs.OrdersInHand.{order_out, orders_out}
 use Rattle.call_lists.specs.CallLists.{HoldsFromMake}
@@ -106,9 +106,9 @@ module _ {K : Type 0} (kind : Kind K) (calls : List Request) (i : ℕ) (done : l
 pub goes_on : {K : Type 0} (kind : Kind K) → CallsArePromised kind
     → (calls : List Request) (s end : State K) (answers rest : List (Answer K)) → end ≡ state_after kind calls s
     → answers ≡ answers_to kind calls s ++ rest
-    → HoldsFromMake kind s (λ unopened course. let then = log_after calls answers course in FollowsRule kind unopened end then × OneRing kind end then.history)
+    → HoldsFromMake kind s (λ unopened log. let then = log_after calls answers log in FollowsRule kind unopened end then × OneRing kind end then.history)
 goes_on {K} kind promised calls s end answers rest ends told n t places m proposals first formed made past_end before is =
-    subst (λ x. Both x then) state_is (subst (λ y. Both (state_after kind (before ++ calls) first) y) course_is (whole.follows, whole.one_ring))
+    subst (λ x. Both x then) state_is (subst (λ y. Both (state_after kind (before ++ calls) first) y) log_is (whole.follows, whole.one_ring))
   where
     whole : IsPromised kind m.posted (before ++ calls) first (undrawn_log (first_history n t proposals past_end))
     whole = promised n t places m proposals first formed made past_end (before ++ calls)
@@ -125,10 +125,10 @@ goes_on {K} kind promised calls s end answers rest ends told n t places m propos
     state_is : state_after kind (before ++ calls) first ≡ end
     state_is = after-append kind before calls first ∙ ap (state_after kind calls) (sym is) ∙ sym ends
 
-    course_is : log_after (before ++ calls) (answers_to kind (before ++ calls) first) (undrawn_log (first_history n t proposals past_end))
+    log_is : log_after (before ++ calls) (answers_to kind (before ++ calls) first) (undrawn_log (first_history n t proposals past_end))
         ≡ then
-    course_is =
-        course-append kind before calls first (undrawn_log (first_history n t proposals past_end))
+    log_is =
+        log-append kind before calls first (undrawn_log (first_history n t proposals past_end))
         ∙ ap (λ x. log_after calls (answers_to kind calls x) begun) (sym is)
-        ∙ sym (course-surplus kind calls s rest begun)
+        ∙ sym (log-surplus kind calls s rest begun)
         ∙ ap (λ a. log_after calls a begun) (sym told)

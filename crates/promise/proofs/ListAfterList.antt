@@ -12,16 +12,16 @@ module _ {K : Type 0} (kind : Kind K) where
   after-append [] ys s = refl
   after-append (c ∷ xs) ys s = after-append xs ys (state_after_call kind c s)
 
-  pub course-append : (xs ys : List Request) (s : State K) (h : Log K)
+  pub log-append : (xs ys : List Request) (s : State K) (h : Log K)
       → log_after (xs ++ ys) (answers_to kind (xs ++ ys) s) h
       ≡ log_after ys (answers_to kind ys (state_after kind xs s)) (log_after xs (answers_to kind xs s) h)
   unfolding state_after answers_to log_after
-  course-append [] ys s h = refl
-  course-append (c ∷ xs) ys s h = course-append xs ys (state_after_call kind c s) (cond (is_ok (answer_to kind c s)) (with_call c h) h)
+  log-append [] ys s h = refl
+  log-append (c ∷ xs) ys s h = log-append xs ys (state_after_call kind c s) (cond (is_ok (answer_to kind c s)) (with_call c h) h)
 
   -- answers behind those of the calls do not count
-  pub course-surplus : (xs : List Request) (s : State K) (more : List (Answer K)) (h : Log K)
+  pub log-surplus : (xs : List Request) (s : State K) (more : List (Answer K)) (h : Log K)
       → log_after xs (answers_to kind xs s ++ more) h ≡ log_after xs (answers_to kind xs s) h
   unfolding answers_to log_after
-  course-surplus [] s more h = refl
-  course-surplus (c ∷ xs) s more h = course-surplus xs (state_after_call kind c s) more (cond (is_ok (answer_to kind c s)) (with_call c h) h)
+  log-surplus [] s more h = refl
+  log-surplus (c ∷ xs) s more h = log-surplus xs (state_after_call kind c s) more (cond (is_ok (answer_to kind c s)) (with_call c h) h)

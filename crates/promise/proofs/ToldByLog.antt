@@ -109,8 +109,8 @@ module _ {K : Type 0} (kind : Kind K) (unopened : ℕ → Option (List ℕ)) (h 
           ≡ unless ((leb h.n p.0, Stranger) ∷ []) (standing_of (with_its_blow (blows p.0) (place_by kind h p.0)))
       by = grind (arith, nat_tests)
 
-  pub by_course : FollowsRule kind unopened s (record { history = h; blows = blows })
-  by_course = record {
+  pub by_log : FollowsRule kind unopened s (record { history = h; blows = blows })
+  by_log = record {
     allowed = g.allowed;
     quiet = g.quiet;
     is = refl;
@@ -125,4 +125,4 @@ module _ {K : Type 0} (kind : Kind K) (unopened : ℕ → Option (List ℕ)) (h 
 
 pub follows : {K : Type 0} (kind : Kind K) (unopened : ℕ → Option (List ℕ)) (s : State K) (c : Log K) → Kept kind unopened s c
     → FollowsRule kind unopened s c
-follows kind unopened s c k = subst (λ x. FollowsRule kind unopened x c) (sym k.is) (by_course kind unopened c.history k.going c.blows)
+follows kind unopened s c k = subst (λ x. FollowsRule kind unopened x c) (sym k.is) (by_log kind unopened c.history k.going c.blows)
