@@ -81,8 +81,7 @@ fn holds(b: Resting<Piece>, piece: u16, missing: u32, horizon: u32) -> bool {
 fn runs(rt: &impl Abort, alloc: Global, steps: &[Step<'_>]) -> Result<(), Fail> {
     let mut listening = made(0, 2, 1, 0)?.open();
     for (i, step) in steps.iter().enumerate() {
-        let went = goes(alloc, &mut listening, *step);
-        assert!(rt; matches!(went, Ok(true)), "step {i}");
+        assert!(rt; goes(alloc, &mut listening, *step)?, "step {i}");
     }
     Ok(())
 }
