@@ -2,6 +2,7 @@
 use Rattle.std.specs.Prelude.{◌≡◌, ℕ, ◌<◌, ◌≤◌, true, false, List, length, map, Some, None, Ok, Err, option_map}
 use Rattle.std.specs.List.{slice_get}
 use Rattle.base.specs.declared.refusal.Refusal.TheVariants.{Row}
+use Rattle.base.specs.Limits.{most_company}
 use Rattle.sets.specs.declared.box_number.BoxNumber.{BoxNumber}
 use Rattle.sets.specs.declared.round_number.RoundNumber.{RoundNumber}
 use Rattle.sets.specs.declared.set.BoxSet.{BoxSet}
@@ -55,7 +56,7 @@ GoodRowMeans K = (s : State K) → bad_row s ≡ false
     → (length s.row ≡ s.wire.n)
     × ((p : ℕ) (b : Held K) → slice_get s.row p ≡ Some (at_rest b)
     → (member s.wire.up p ≡ true) × (b.number.0 ≡ p) × (b.n ≡ s.wire.n) × (b.t ≡ s.t) × (b.closed ≡ s.closed)
-    × ((q : ℕ) → q < 32 → member b.missing q ≡ true → member s.wire.up q ≡ false))
+    × ((q : ℕ) → q < most_company → member b.missing q ≡ true → member s.wire.up q ≡ false))
     × ((p : ℕ) (r : RoundNumber) → slice_get s.row p ≡ Some (down r) → member s.wire.up p ≡ false)
     × ((p : ℕ) (x : Rung K) → slice_get s.row p ≡ Some (rung x) → (member s.wire.up p ≡ true) × (x.round.0 ≡ s.closed) × (1 ≤ s.closed))
     × (gone_count s.wire ≤ s.t)

@@ -3,6 +3,7 @@ use Rattle.std.specs.Prelude.{ℕ, ⊤, Bool, not, ◌&&◌, ◌||◌, [], ◌�
 use Rattle.std.specs.List.{list_any}
 use Rattle.base.specs.declared.refusal.Refusal.{Refusal}
 use Rattle.base.specs.declared.refusal.Refusal.TheVariants as refusal
+use Rattle.base.specs.Limits.{most_company}
 use Rattle.base.specs.Refusals.{unless}
 use Rattle.base.specs.Counts.{any}
 use Rattle.base.specs.Numbered.{any_numbered}
@@ -17,7 +18,7 @@ module _ {K : Type 0} where
   abbrev pub is_other : State K → ℕ → Held K → Bool
   is_other s p b =
       not (b.number.0 == p && b.n == s.wire.n && b.t == s.t && b.closed == s.closed)
-      || any (λ q. member b.missing q && member s.wire.up q) 32
+      || any (λ q. member b.missing q && member s.wire.up q) most_company
 
   -- that this may not stand at place p: a box that is down stands there just if the wire has it not up, and one at rest or ringing only if
   -- it is up; one that rings does so in the last closed round, and in none before there is one
