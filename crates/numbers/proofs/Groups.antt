@@ -1,11 +1,11 @@
 -- The bytes of a number, group by group.
 use Rattle.std.proofs.Common.{◌≡◌, ℕ, ◌*◌, zero, suc, refl, ◌-◌, ◌+◌, ◌/◌, ◌%◌, ◌^◌, ◌<◌, ◌≤◌, List, [], ◌∷◌, ◌++◌, map, length, drop, set, max, ap, ◌∙◌, pow-suc, arith, length-append}
-use Rattle.std.proofs.Math.Nat.{one-le-pow}
+use Rattle.std.proofs.Math.Nat.{one-le-pow, pow-le-pow_right}
 use lib.Bits.{bit_and, bit_or}
 use lib.ListN.{length-map}
 use Rattle.std.specs.Int.Digits.{digits_of}
 use Rattle.std.proofs.lemmas.Int.Digits.{digits_of_step, length-digits_of-le}
-use Rattle.std.proofs.lemmas.Nat.{and_mask, or_shifted}
+use Rattle.std.proofs.lemmas.Nat.{and_mask, or_shifted, pow-add}
 use Rattle.std.proofs.lemmas.List.{map_push, length-set}
 use Rattle.std.proofs.lemmas.Grind.{common_steps}
 use Rattle.numbers.specs.Numbers.{marked_groups, number_bytes}
@@ -38,6 +38,22 @@ length_by_power n (suc k) large small =
     let some = one-le-pow k 128 (omega arith) in
     let fewer = length_by_power (n / 128) k (omega arith) (omega arith) in
     omega (arith, fewer, length-written n, length-written (n / 128), length-marked_step (n / 128) (omega arith))
+
+-- the same by the highest power of 2, since a group has seven bits
+power_of_groups : (k : ℕ) → 2 ^ (k * 7) ≡ 128 ^ k
+power_of_groups zero = refl
+power_of_groups (suc k) =
+    let more : suc k * 7 ≡ 7 + k * 7 = omega arith in
+    rw more (omega (arith, pow-add 2 7 (k * 7), power_of_groups k, pow-suc 128 k))
+
+pub length_by_bits : (n bits : ℕ) → 2 ^ bits ≤ max n 1 → max n 1 < 2 * 2 ^ bits → bits / 7 + 1 ≡ length (number_bytes n)
+length_by_bits n bits large small =
+    let k = bits / 7 in
+    let full = pow-le-pow_right {n = 2} (omega arith) {i = k * 7} {j = bits} (omega arith) in
+    let next = pow-le-pow_right {n = 2} (omega arith) {i = suc bits} {j = suc k * 7} (omega arith) in
+    length_by_power n k
+    (omega (arith, full, power_of_groups k))
+    (omega (arith, next, power_of_groups (suc k), pow-suc 128 k, pow-suc 2 bits))
 
 -- what the writer computes of a group
 marked_byte : (n : ℕ) → bit_or 128 (bit_and n 127) ≡ 128 + n % 128

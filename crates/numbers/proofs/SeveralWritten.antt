@@ -6,6 +6,7 @@ use Rattle.std.proofs.lemmas.Grind.{common_steps, flat_map-append}
 use borrow.Rule.Slice.PartMut.{put_mid}
 use Rattle.numbers.specs.Numbers.{number_bytes, numbers_bytes}
 use Rattle.base.specs.Buffers.{with_front, len_if_room}
+use Rattle.numbers.proofs.Groups.{length-written}
 use Rattle.base.proofs.BufferLemmas.{with_front-fits}
 
 pub written_all-cons : (n : ℕ) (ns : List ℕ) → numbers_bytes (n ∷ ns) ≡ number_bytes n ++ numbers_bytes ns
@@ -15,6 +16,14 @@ written_all-cons n ns = refl
 pub written_all-nil : numbers_bytes [] ≡ []
 unfolding numbers_bytes
 written_all-nil = refl
+
+-- each number takes a byte at least
+pub length-le-written_all : (ns : List ℕ) → length ns ≤ length (numbers_bytes ns)
+length-le-written_all [] = omega arith
+length-le-written_all (n ∷ ns) =
+    let some : 1 ≤ length (number_bytes n) = omega (arith, length-written n) in
+    let rest = length-le-written_all ns in
+    rw (written_all-cons n ns, length-append (number_bytes n) (numbers_bytes ns)) (omega arith)
 
 pub written_all-append : (xs ys : List ℕ) → numbers_bytes (xs ++ ys) ≡ numbers_bytes xs ++ numbers_bytes ys
 unfolding numbers_bytes

@@ -36,11 +36,11 @@ pub struct Decoded {
     pub next: usize,
 }
 
-/// How many bytes the number takes, 1 to 5.
+/// How many bytes the number takes, 1 to 5: one for each seven bits begun.
 pub fn number_len(n: u32) -> usize
     ensures { result ≡ length (number_bytes n) }
 {
-    n.max(1).ilog(128) as usize + 1
+    n.max(1).ilog2() as usize / 7 + 1
 }
 
 /// Writes the number at the front of `out` and answers how many bytes it takes, 1 to 5; the bytes behind stay. Refuses narrow (19) where `out` has
@@ -63,11 +63,11 @@ pub fn write_number(n: u32, out: &mut [u8]) -> Result<usize, Refusal>
     Ok(len)
 }
 
-// Whether the numbers take no more bytes than there is room for.
+// Whether the numbers take no more bytes than there is room for. Each takes a byte at least, so of more numbers than that none is looked at.
 fn fit(numbers: &[u32], room: usize) -> bool
     ensures { result ≡ nat_le (length (numbers_bytes numbers.now)) room }
 {
-    numbers.iter().copied().map(number_len).sum::<usize>() <= room
+    numbers.len() <= room && numbers.iter().copied().map(number_len).sum::<usize>() <= room
 }
 
 /// Writes the numbers at the front of `out`, one after another, and answers how many bytes they take together; the bytes behind stay. Refuses
@@ -94,12 +94,19 @@ fn refuse(refusal: Refusal, place: usize) -> Result<Decoded, NumberFault>
     Err(NumberFault { refusal, place })
 }
 
+// The bytes from a place on: none where it is past the end.
+fn bytes_from(bytes: &[u8], at: usize) -> &[u8]
+    ensures { result.now ≡ drop at bytes.now }
+{
+    bytes.get(at..).unwrap_or(&[])
+}
+
 // The number that the groups from a place on make, and how it is refused. A fifth byte that goes on is too many, whatever stands behind it.
 fn read_groups(bytes: &[u8], at: usize) -> Result<Decoded, NumberFault>
     ensures { result ≡ read_groups at (drop at bytes.now) }
 {
     let mut high: u32 = 0;
-    let mut groups = bytes.iter().skip(at).enumerate();
+    let mut groups = bytes_from(bytes, at).iter().enumerate();
     let (value, last) = loop {
         let Some((i, &byte)) = groups.next() else {
             return refuse(Refusal::Short, at);

@@ -5,6 +5,7 @@ use Rattle.std.proofs.lemmas.List.Elements.{All-from_get_or}
 use Rattle.std.proofs.lemmas.List.Sums.{sum_by-le}
 use Rattle.numbers.specs.Numbers.{number_bytes, numbers_bytes}
 use Rattle.numbers.proofs.Groups.{number_length}
+use Rattle.numbers.proofs.SeveralWritten.{length-le-written_all}
 use Rattle.numbers.proofs.codec.fit.Goals as goal
 
 -- each number has five bytes at most, and takes four in the slice
@@ -14,6 +15,9 @@ fits ns few each = omega (arith, sum_by-le (λ n. length (number_bytes n)) 5 ns 
 pub sum-requires-clause-fits : goal.sum-requires-clause-fits
 sum-requires-clause-fits c = let small = fits c.args.numbers.now (omega arith) c.type_inv.numbers in search rules
 
-pub returns : goal.returns
+pub returns-then-numbers-room : goal.returns-then-numbers-room
 unfolding numbers_bytes
-returns c = rw length-flat_map (search rules)
+returns-then-numbers-room c = rw length-flat_map (search rules)
+
+pub returns-else-numbers-room : goal.returns-else-numbers-room
+returns-else-numbers-room c = let each = length-le-written_all c.args.numbers.now in search (rules, arith)

@@ -4,7 +4,6 @@ use Rattle.std.proofs.lemmas.Grind.{common_steps}
 use Rattle.std.proofs.lemmas.List.{length_push}
 use Rattle.std.proofs.lemmas.List.FromFn.{length-enumerate_from, get_or-enumerate_from}
 use Rattle.std.proofs.lemmas.Iterator.{YieldsList-from_slice}
-use Rattle.std.proofs.lemmas.Iterator.Adapters.{YieldsList-from_skip}
 use Rattle.std.proofs.lemmas.Iterator.Consumers.{YieldsList-from_enumerate, YieldsList-turn, YieldsList-end}
 use Rattle.numbers.specs.Numbers.{goes_on, value_of}
 use Rattle.numbers.proofs.ReadingStep.{Group, at_end, at_wide, at_fifth, at_last, more, value_more}
@@ -14,7 +13,7 @@ use Rattle.numbers.proofs.codec.read_groups.Goals.{In-Some}
 pub returns-in_default : goal.returns-in_default
 returns-in_default c =
     let bs = drop c.args.at c.args.bytes.now in
-    let road = YieldsList-from_enumerate (YieldsList-from_skip c.args.at (YieldsList-from_slice c.args.bytes.now cc) cc) cc in
+    let road = YieldsList-from_enumerate (YieldsList-from_slice (drop c.args.at c.args.bytes.now) cc) cc in
     let all : length c.loop-i.yielded ≡ length bs = (YieldsList-end road c.loop-i.yielded _ c.loop-i.yielded_by _ _ c.in_default.is c.next.ensures.steps).1 ∙ length-enumerate_from 0 bs in
     c.refuse.ensures ∙ sym (at_end bs c.args.at (length c.loop-i.yielded) c.loop-i.invariant.few c.loop-i.invariant.on all)
 
@@ -26,7 +25,7 @@ group bs k h i b few on high next =
 
 read : (c : In-Some) → (c.in-Some.i ≡ length c.loop-i.yielded) × Group (drop c.args.at c.args.bytes.now) c.in-Some.i c.loop-i.high c.in-Some.field-0-1.now
 read c =
-    let road = YieldsList-from_enumerate (YieldsList-from_skip c.args.at (YieldsList-from_slice c.args.bytes.now cc) cc) cc in
+    let road = YieldsList-from_enumerate (YieldsList-from_slice (drop c.args.at c.args.bytes.now) cc) cc in
     group _ _ _ _ _ c.loop-i.invariant.few c.loop-i.invariant.on c.loop-i.invariant.high (YieldsList-turn road c.loop-i.yielded _ c.loop-i.yielded_by _ _ _ c.in-Some.is c.next.ensures.steps)
 
 pub returns-then-high : goal.returns-then-high
